@@ -1,0 +1,43 @@
+-- Laws of fractions. Each is a fact of naturals, by the parts of the numerators.
+-- Assumes nothing.
+use mathlib.Core.Path.{_≡_, refl, ap}
+use Prim.Native.Nat.{ℕ, _+_, _*_, _≤_, _<_}
+use native.Mathlib.Omega.{arith}
+use lib.IntN.{ℤ, pos, negsuc, _+ℤ_, _*ℤ_}
+use Rattle.arithmetic.specs.Fraction.{Fraction, _≤ᶠ_, _<ᶠ_, _+ᶠ_, positivePart}
+use Rattle.arithmetic.proofs.IntegerLaws.{above, below, parts-le, parts-lt, add-parts, mul-above, mul-below}
+
+-- the two parts of a fraction's numerator
+abbrev pub over : Fraction → ℕ
+over x = above (x .num)
+
+abbrev pub under : Fraction → ℕ
+under x = below (x .num)
+
+-- the orders, by the parts
+pub parts-≤ᶠ : {x y : Fraction} → over x * y .den + under y * x .den ≤ over y * x .den + under x * y .den → x ≤ᶠ y
+parts-≤ᶠ {x} {y} h =
+    record { cross = parts-le (x .num *ℤ pos (y .den)) (y .num *ℤ pos (x .den)) (omega (arith, h, mul-above (x .num) (y .den), mul-below (x .num) (y .den), mul-above (y .num) (x .den), mul-below (y .num) (x .den))) }
+
+pub parts-<ᶠ : {x y : Fraction} → over x * y .den + under y * x .den < over y * x .den + under x * y .den → x <ᶠ y
+parts-<ᶠ {x} {y} h =
+    record { cross = parts-lt (x .num *ℤ pos (y .den)) (y .num *ℤ pos (x .den)) (omega (arith, h, mul-above (x .num) (y .den), mul-below (x .num) (y .den), mul-above (y .num) (x .den), mul-below (y .num) (x .den))) }
+
+-- a sum, by the parts
+pub sum-parts : (x y : Fraction) → over (x +ᶠ y) + (under x * y .den + under y * x .den) ≡ under (x +ᶠ y) + (over x * y .den + over y * x .den)
+unfolding _+ᶠ_
+sum-parts x y =
+    omega (arith, add-parts (x .num *ℤ pos (y .den)) (y .num *ℤ pos (x .den)), mul-above (x .num) (y .den), mul-below (x .num) (y .den), mul-above (y .num) (x .den), mul-below (y .num) (x .den))
+
+pub sum-den : (x y : Fraction) → (x +ᶠ y) .den ≡ x .den * y .den
+unfolding _+ᶠ_
+sum-den x y = refl
+
+-- the part that is positive
+pub positive-above : (z : ℤ) → above (positivePart z) ≡ above z
+positive-above (pos n) = refl
+positive-above (negsuc n) = refl
+
+pub positive-below : (z : ℤ) → below (positivePart z) ≡ 0
+positive-below (pos n) = refl
+positive-below (negsuc n) = refl

@@ -1,0 +1,7 @@
+pub mod SumLaws
+pub mod TableLaws
+pub mod RoundingLaws
+pub mod IntegerLaws
+pub mod FractionLaws
+pub mod RatioLaws
+pub mod NearLaws

@@ -1,0 +1,71 @@
+-- What the roundings are, and how a product that passes 64 bits is divided in two steps.
+-- Assumes nothing.
+use mathlib.Core.Path.{_≡_, refl, sym, ap, _∙_}
+use Prim.Native.Nat.{ℕ, zero, suc, _+_, _-_, _*_, _/_, _%_, _≤_, _<_}
+use native.Mathlib.Nat.{div-add-mod', mod-lt, add-mul-div-right, div-eq-of-lt-le, div-mul-le-self, lt-div-mul-add, div-zero}
+use native.Mathlib.Omega.{arith}
+use lib.IntN.{ℤ, pos, negsuc, _+ℤ_, _*ℤ_}
+use lib.Signed.{_≤ℤ_, _<ℤ_}
+use Rattle.arithmetic.specs.Rounding.{ceilDiv, floorDiv}
+use Rattle.arithmetic.proofs.IntegerLaws.{above, below, parts-le, parts-lt, mul-above, mul-below, add-parts}
+
+-- the least q whose product with d is not below n
+pub ceilDiv-is : (n d : ℕ) → 0 < d → (n ≤ ceilDiv n d * d) × (ceilDiv n d * d < n + d)
+unfolding ceilDiv
+ceilDiv-is n d h = (omega (arith, lt-div-mul-add {a = n + (d - 1)} h), omega (arith, div-mul-le-self (n + (d - 1)) d))
+
+-- the greatest q whose product with d is not above z
+floor-low : (z : ℤ) (d : ℕ) → 0 < d → above (floorDiv z d) * d + below z ≤ above z + below (floorDiv z d) * d
+unfolding floorDiv
+floor-low (pos n) d h = omega (arith, div-mul-le-self n d)
+floor-low (negsuc n) d h = omega (arith, lt-div-mul-add {a = n} h)
+
+floor-high : (z : ℤ) (d : ℕ) → 0 < d → above z + below (floorDiv z d) * d < above (floorDiv z d) * d + below z + d
+unfolding floorDiv
+floor-high (pos n) d h = omega (arith, lt-div-mul-add {a = n} h)
+floor-high (negsuc n) d h = omega (arith, div-mul-le-self n d)
+
+pub record Floor (z q : ℤ) (d : ℕ) : Type 0 where
+  pub low : above q * d + below z ≤ above z + below q * d
+  pub high : above z + below q * d < above q * d + below z + d
+
+pub floorDiv-parts : (z : ℤ) (d : ℕ) → 0 < d → Floor z (floorDiv z d) d
+floorDiv-parts z d h = record { low = floor-low z d h; high = floor-high z d h }
+
+pub floorDiv-is : (z : ℤ) (d : ℕ) → 0 < d → ((floorDiv z d *ℤ pos d) ≤ℤ z) × (z <ℤ (floorDiv z d *ℤ pos d +ℤ pos d))
+floorDiv-is z d h = (
+  parts-le (q *ℤ pos d) z (omega (arith, floor-low z d h, mul-above q d, mul-below q d)),
+  parts-lt z (q *ℤ pos d +ℤ pos d) (omega (arith, floor-high z d h, mul-above q d, mul-below q d, add-parts (q *ℤ pos d) (pos d))),
+)
+  where
+    q : ℤ
+    q = floorDiv z d
+
+-- ---- a quotient's multiple, and the remainder's quotient
+split-parts : (c n m s : ℕ) → c * n + s ≡ c % m * n + s + c / m * n * m
+split-parts c n m s = go (c / m) (c % m) (div-add-mod' c m)
+  where
+    go : (q r : ℕ) → q * m + r ≡ c → c * n + s ≡ r * n + s + q * n * m
+    go q r e = rw (← e) (omega arith)
+
+pub split-down : (c n m : ℕ) → 0 < m → c / m * n + c % m * n / m ≡ c * n / m
+split-down c n m h =
+    let e : c * n ≡ c % m * n + c / m * n * m = omega (arith, split-parts c n m 0) in
+    rw (e, add-mul-div-right (c % m * n) (c / m * n) h) (omega arith)
+
+pub split-up : (c n m : ℕ) → 0 < m → c / m * n + ceilDiv (c % m * n) m ≡ ceilDiv (c * n) m
+unfolding ceilDiv
+split-up c n m h = rw (split-parts c n m (m - 1), add-mul-div-right (c % m * n + (m - 1)) (c / m * n) h) (omega arith)
+
+-- ---- a quotient rounded up from the one rounded down
+pub ceilDiv-none : (n : ℕ) → 0 ≡ ceilDiv n 0
+unfolding ceilDiv
+ceilDiv-none n = sym (div-zero (n + (0 - 1)))
+
+pub ceilDiv-even : (n d : ℕ) → 0 < d → n % d ≡ 0 → n / d ≡ ceilDiv n d
+unfolding ceilDiv
+ceilDiv-even n d h e = sym (div-eq-of-lt-le d (omega (arith, div-add-mod' n d)) (omega (arith, div-add-mod' n d)))
+
+pub ceilDiv-odd : (n d : ℕ) → 0 < d → (n % d ≡ 0 → ⊥) → n / d + 1 ≡ ceilDiv n d
+unfolding ceilDiv
+ceilDiv-odd n d h e = sym (div-eq-of-lt-le d (omega (arith, div-add-mod' n d, e)) (omega (arith, div-add-mod' n d, mod-lt n h)))

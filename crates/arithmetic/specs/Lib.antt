@@ -1,0 +1,3 @@
+pub mod Sum
+pub mod Rounding
+pub mod Fraction

@@ -1,0 +1,14 @@
+-- Sums over the numbers below n, and lists by their entries.
+-- Assumes nothing.
+use Prim.Native.Nat.{ℕ, zero, suc, _+_}
+use mathlib.Core.List.{List, [], _∷_, _++_}
+
+-- f 0 + f 1 + .. + f (n - 1)
+unfoldable pub sum : ℕ → (ℕ → ℕ) → ℕ
+sum zero f = 0
+sum (suc n) f = sum n f + f n
+
+-- f 0, f 1, .., f (n - 1)
+unfoldable pub listed : {A : Type 0} → ℕ → (ℕ → A) → List A
+listed zero f = []
+listed (suc n) f = listed n f ++ (f n ∷ [])

@@ -1,0 +1,34 @@
+-- Document 01, "Classes and factors": the twelve land use classes in this order: E, SE, P, D, B, M, MR, FF, FR, TP, PP, NF.
+-- A class is its place in the order, from 0.
+-- Assumes nothing.
+use Prim.Native.Nat.{ℕ, _-_}
+use mathlib.Core.Bool.{Bool, cond, _||_}
+use mathlib.Core.List.{List, [], _∷_}
+use lib.Dec.{eqb}
+use lib.ListN.{getD}
+
+abbrev pub classes : ℕ
+classes = 12
+
+abbrev pub TP : ℕ
+TP = 9
+
+abbrev pub PP : ℕ
+PP = 10
+
+abbrev pub NF : ℕ
+NF = 11
+
+-- carbon stock by class, in hundredths of tC per ha (document 001, table 1, total biomass)
+unfoldable pub carbonStocks : List ℕ
+carbonStocks = 9130 ∷ 13511 ∷ 5654 ∷ 4821 ∷ 0 ∷ 8415 ∷ 9240 ∷ 3986 ∷ 4265 ∷ 5654 ∷ 5654 ∷ 0 ∷ []
+
+-- annual probability of deforestation by class, in millionths: document 01's yearly probability of turning into non-forest
+-- (document 001, table 4)
+unfoldable pub deforestationProbabilities : List ℕ
+deforestationProbabilities = 24900 ∷ 30900 ∷ 0 ∷ 34500 ∷ 14100 ∷ 10000 ∷ 41700 ∷ 50600 ∷ 97200 ∷ 116900 ∷ 0 ∷ 0 ∷ []
+
+-- the emission factor (document 01: factor) from class i to class j by a list of stocks: stock i minus stock j if that is positive and j is
+-- neither TP nor PP; otherwise 0. (A difference of naturals is 0 where it would be negative.)
+unfoldable pub emissionFactor : List ℕ → ℕ → ℕ → ℕ
+emissionFactor stocks i j = cond (eqb j TP || eqb j PP) 0 (getD stocks i 0 - getD stocks j 0)

@@ -1,0 +1,127 @@
+// Units, land use classes and their constant tables, and the calendar.
+ghost use mathlib.Core.Path.{_≡_};
+ghost use Prim.Native.Nat.{_<_, _^_};
+ghost use lib.IntN.{pos};
+ghost use Rattle.classes.specs.Classes.{carbonStocks, emissionFactor};
+ghost use Rattle.classes.specs.Matrix.{tableOf, optionOneMatrix};
+ghost use Rattle.classes.specs.Calendar.{daysInYear};
+
+// An area, in millionths of a hectare.
+pub struct AreaUnits(pub u64);
+
+// Carbon, in units of 10^-8 tC.
+pub struct CarbonUnits(pub u64);
+
+// CO2 (of fertilizer and fires CO2-equivalent), in grams.
+pub struct Grams(pub i64);
+
+// Carbon stock by class, hundredths of tC per ha (document 001, table 1).
+const CARBON_STOCKS: [u64; 12] = [
+    9130,
+    13511,
+    5654,
+    4821,
+    0,
+    8415,
+    9240,
+    3986,
+    4265,
+    5654,
+    5654,
+    0,
+];
+
+// Annual probability of deforestation by class, millionths (document 001, table 4).
+const DEFORESTATION_PROBABILITIES: [u64; 12] = [
+    24900,
+    30900,
+    0,
+    34500,
+    14100,
+    10000,
+    41700,
+    50600,
+    97200,
+    116900,
+    0,
+    0,
+];
+
+impl Grams {
+    // n grams.
+    pub fn of(n: u64) -> Grams
+        requires { ⌜ n < 2 ^ 63 ⌝ }
+        ensures { λ r. ⌜ r .0 ≡ pos n ⌝ }
+    {
+        Grams(n as i64)
+    }
+}
+
+// The built-in carbon stocks.
+pub fn carbon_stocks() -> [u64; 12]
+    ensures { λ r. ⌜ r ≡ carbonStocks ⌝ }
+{
+    CARBON_STOCKS
+}
+
+// The emission factor from class i to class j.
+fn emission_factor(stocks: &[u64; 12], i: usize, j: usize) -> u64
+    requires { ⌜ i < 12 ⌝ }
+    requires { ⌜ j < 12 ⌝ }
+    ensures { λ r. ⌜ r ≡ emissionFactor (now (stocks .entry)) i j ⌝ }
+{
+    if j == 9 {
+        return 0;
+    }
+    if j == 10 {
+        return 0;
+    }
+    let from = stocks[i];
+    let to = stocks[j];
+    if to < from { from - to } else { 0 }
+}
+
+// The emission factors of all pairs of classes.
+pub fn emission_factors(stocks: &[u64; 12]) -> [u64; 144]
+    ensures { λ r. ⌜ r ≡ tableOf (emissionFactor (now (stocks .entry))) ⌝ }
+{
+    let mut factors = [0u64; 144];
+    let mut k: usize = 0;
+    while k < 144 {
+        factors[k] = emission_factor(stocks, k / 12, k % 12);
+        k += 1;
+    }
+    factors
+}
+
+// Option 1's matrix, row by row: the diagonal after column NF, so that NF stays NF.
+pub fn option_one_matrix() -> [u64; 144]
+    ensures { λ r. ⌜ r ≡ optionOneMatrix ⌝ }
+{
+    let probabilities = DEFORESTATION_PROBABILITIES;
+    let mut matrix = [0u64; 144];
+    let mut i: usize = 0;
+    while i < 12 {
+        let p = probabilities[i];
+        matrix[12 * i + 11] = p;
+        matrix[12 * i + i] = 1000000 - p;
+        i += 1;
+    }
+    matrix
+}
+
+// The days of a Gregorian year.
+pub fn days_in_year(year: u64) -> u64
+    ensures { λ r. ⌜ r ≡ daysInYear year ⌝ }
+{
+    if year % 400 == 0 {
+        return 366;
+    }
+    if year % 100 == 0 {
+        return 365;
+    }
+    if year % 4 == 0 {
+        return 366;
+    }
+    365
+}

@@ -1,0 +1,2 @@
+pub mod FlowLaws
+pub mod ProjectionLaws

@@ -1,0 +1,67 @@
+-- Document 01, "Projection", for any list of twelve areas: the project area's and the belt's alike.
+-- Assumes nothing.
+use Prim.Native.Nat.{ℕ, _+_, _-_, _*_, _/_, _≤_, _<_}
+use mathlib.Core.List.{List}
+use lib.ListN.{getD}
+use Rattle.arithmetic.specs.Sum.{sum, listed}
+use Rattle.classes.specs.declared.AreaUnits.{AreaUnits}
+use Rattle.classes.specs.Classes.{classes}
+use Rattle.classes.specs.Matrix.{entry, million}
+use Rattle.projection.specs.declared.Region.{Region}
+use Rattle.projection.specs.declared.Projected.{Projected}
+
+-- the area of class i
+abbrev pub area : List AreaUnits → ℕ → ℕ
+area areas i = getD areas i (record { 0 = 0 }) .0
+
+abbrev pub areaTotal : List AreaUnits → ℕ
+areaTotal areas = sum classes (area areas)
+
+-- flow i to j (document 001: projected area of land converted) = area i × probability ÷ 1,000,000, rounded down
+abbrev pub flow : List AreaUnits → List ℕ → ℕ → ℕ → ℕ
+flow areas matrix i j = area areas i * entry matrix i j / million
+
+-- projected carbon of the year = sum of flow × factor
+unfoldable pub projectedCarbon : (ℕ → ℕ → ℕ) → List AreaUnits → List ℕ → ℕ
+projectedCarbon factor areas matrix = sum classes (λ i. sum classes (λ j. flow areas matrix i j * factor i j))
+
+-- the next year's area j = sum of flows into j
+unfoldable pub nextArea : List AreaUnits → List ℕ → ℕ → ℕ
+nextArea areas matrix j = sum classes (λ i. flow areas matrix i j)
+
+-- the carbon of the flows into j
+unfoldable pub inflowCarbon : (ℕ → ℕ → ℕ) → List AreaUnits → List ℕ → ℕ → ℕ
+inflowCarbon factor areas matrix j = sum classes (λ i. flow areas matrix i j * factor i j)
+
+unfoldable pub nextAreas : List AreaUnits → List ℕ → List AreaUnits
+nextAreas areas matrix = listed classes (λ j. record { 0 = nextArea areas matrix j })
+
+-- the area that rounding lost: over all classes, the sum of each area less its twelve flows
+unfoldable pub lostArea : List AreaUnits → List ℕ → ℕ
+lostArea areas matrix = sum classes (λ i. area areas i - sum classes (λ j. flow areas matrix i j))
+
+-- a region, project area or belt, is its twelve projected areas and its balance. Year 1 starts from the areas at inception, and the balance at 0
+unfoldable pub openedRegion : List AreaUnits → Region
+openedRegion areas = record { areas = areas; balance = record { 0 = 0 } }
+
+-- after a year: the areas that the next year would start from, and the balance grown by the area that rounding lost
+unfoldable pub projectedRegion : List ℕ → Region → Region
+projectedRegion matrix region = record { areas = nextAreas (region .areas) matrix; balance = record { 0 = region .balance .0 + lostArea (region .areas) matrix } }
+
+-- the year of a region: what it is afterwards, and its projected carbon
+unfoldable pub projectedYear : (ℕ → ℕ → ℕ) → List ℕ → Region → Projected
+projectedYear factor matrix region = record { region = projectedRegion matrix region; carbon = record { 0 = projectedCarbon factor (region .areas) matrix } }
+
+-- ---- ranges in which every sum and product fits 64 bits
+
+-- all of a region's area is at most 10^12 units
+abbrev pub SmallRegion : Region → Type 0
+SmallRegion region = areaTotal (region .areas) + region .balance .0 ≤ 1000000000000
+
+-- no row of a matrix sums to more than 1,000,000
+abbrev pub RowsWithin : List ℕ → Type 0
+RowsWithin matrix = (i : ℕ) → i < classes → sum classes (entry matrix i) ≤ million
+
+-- a factor fits 16 bits
+abbrev pub FactorsFit : List ℕ → Type 0
+FactorsFit factors = (k : ℕ) → getD factors k 0 < 65536

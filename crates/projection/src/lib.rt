@@ -1,0 +1,115 @@
+// The projection of a region, project area or belt, over a year.
+use classes::AreaUnits;
+use classes::CarbonUnits;
+ghost use mathlib.Core.Path.{_≡_};
+ghost use Prim.Native.Nat.{ℕ, _+_, _*_, _/_, _≤_, _<_};
+ghost use lib.ListN.{getD};
+ghost use Rattle.arithmetic.specs.Sum.{sum};
+ghost use Rattle.classes.specs.Matrix.{entry};
+ghost use Rattle.projection.specs.Projection.{areaTotal, flow as flowOf, nextArea, projectedYear, SmallRegion, RowsWithin, FactorsFit};
+ghost use Rattle.projection.specs.Projection.{inflowCarbon};
+
+// The twelve areas of a region by class, and its balance: the area that rounding lost so far.
+pub struct Region {
+    pub areas: [AreaUnits; 12],
+    pub balance: AreaUnits,
+}
+
+// A region after a year, and the projected carbon of that year.
+pub struct Projected {
+    pub region: Region,
+    pub carbon: CarbonUnits,
+}
+
+// What flows into one class, and the carbon that it sets free.
+struct Inflow {
+    area: AreaUnits,
+    carbon: CarbonUnits,
+}
+
+// The flow of an area at a probability in millionths, rounded down.
+fn flow(area: AreaUnits, probability: u64) -> AreaUnits
+    requires { ⌜ (area .0 ≤ 1000000000000) × (probability ≤ 1000000) ⌝ }
+    ensures { λ r. ⌜ r .0 ≡ area .0 * probability / 1000000 ⌝ }
+{
+    AreaUnits(area.0 * probability / 1000000)
+}
+
+// The carbon that an area sets free by an emission factor.
+pub fn released(area: AreaUnits, factor: u64) -> CarbonUnits
+    requires { ⌜ (area .0 ≤ 1000000000000) × (factor < 65536) ⌝ }
+    ensures { λ r. ⌜ r .0 ≡ area .0 * factor ⌝ }
+{
+    CarbonUnits(area.0 * factor)
+}
+
+// The flows into class j.
+fn flows_into(areas: [AreaUnits; 12], matrix: &[u64; 144], factors: &[u64; 144], j: usize) -> Inflow
+    requires { ⌜ areaTotal areas ≤ 1000000000000 ⌝ }
+    requires { ⌜ RowsWithin (now matrix) ⌝ }
+    requires { ⌜ FactorsFit (now factors) ⌝ }
+    requires { ⌜ j < 12 ⌝ }
+    ensures { λ r. ⌜ (r .area .0 ≡ nextArea areas (now (matrix .entry)) j) × (r .carbon .0 ≡ inflowCarbon (entry (now (factors .entry))) areas (now (matrix .entry)) j) ⌝ }
+{
+    let mut area: u64 = 0;
+    let mut carbon: u64 = 0;
+    let mut i: usize = 0;
+    while i < 12 {
+        let f = flow(areas[i], matrix[12 * i + j]);
+        area = area + f.0;
+        let c = released(f, factors[12 * i + j]);
+        carbon = carbon + c.0;
+        i += 1;
+    }
+    Inflow {
+        area: AreaUnits(area),
+        carbon: CarbonUnits(carbon),
+    }
+}
+
+// The total of twelve areas.
+pub fn area_total(areas: [AreaUnits; 12]) -> AreaUnits
+    requires { ⌜ areaTotal areas ≤ 1000000000000 ⌝ }
+    ensures { λ r. ⌜ r .0 ≡ areaTotal areas ⌝ }
+{
+    let mut total: u64 = 0;
+    let mut i: usize = 0;
+    while i < 12 {
+        let a = areas[i];
+        total = total + a.0;
+        i += 1;
+    }
+    AreaUnits(total)
+}
+
+impl Region {
+    // A year of this region by a matrix and a table of emission factors.
+    pub fn projected(self, matrix: &[u64; 144], factors: &[u64; 144]) -> Projected
+        requires { ⌜ SmallRegion self ⌝ }
+        requires { ⌜ RowsWithin (now matrix) ⌝ }
+        requires { ⌜ FactorsFit (now factors) ⌝ }
+        ensures { λ r. ⌜ r ≡ projectedYear (entry (now (factors .entry))) (now (matrix .entry)) self ⌝ }
+    {
+        let areas = self.areas;
+        let mut next = [AreaUnits(0); 12];
+        let mut carbon: u64 = 0;
+        let mut j: usize = 0;
+        while j < 12 {
+            let column = flows_into(areas, matrix, factors, j);
+            let area = column.area;
+            let released = column.carbon;
+            next[j] = area;
+            carbon = carbon + released.0;
+            j += 1;
+        }
+        let before = area_total(areas);
+        let after = area_total(next);
+        Projected {
+            region: Region {
+                areas: next,
+                balance: AreaUnits(self.balance.0 + (before.0 - after.0)),
+            },
+            carbon: CarbonUnits(carbon),
+        }
+    }
+}
