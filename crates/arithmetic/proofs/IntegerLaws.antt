@@ -5,8 +5,8 @@ use mathlib.Core.Bool.{Bool, true, false, not, cond}
 use Prim.Native.Nat.{ℕ, zero, suc, _+_, _*_, _-_, _≤_, _<_}
 use native.Mathlib.Omega.{arith}
 use lib.Dec.{T, leb, ltb, leb→le, le→leb, ltb→lt, lt→ltb, nltb→le}
-use lib.IntN.{ℤ, pos, negsuc, subℕ, _+ℤ_, _*ℤ_, negℤ}
-use lib.Signed.{_≤ℤ_, _<ℤ_}
+use lib.IntN.{ℤ, pos, negsuc, subℕ, _+ℤ_, _-ℤ_, _*ℤ_, negℤ}
+use lib.Signed.{_≤ℤ_, _<ℤ_, mag}
 
 abbrev pub above : ℤ → ℕ
 above (pos n) = n
@@ -85,3 +85,27 @@ same-parts (pos a) (pos b) e = let k : a ≡ b = omega arith in rw k
 same-parts (pos a) (negsuc b) e = let z : ⊥ = omega arith in absurd z
 same-parts (negsuc a) (pos b) e = let z : ⊥ = omega arith in absurd z
 same-parts (negsuc a) (negsuc b) e = let k : a ≡ b = omega arith in rw k
+
+-- ---- sizes: `mag` is n both of n and of -(n + 1)
+sub-mag : (a b : ℕ) → mag (subℕ a (suc b)) ≤ a + b
+sub-mag a b = go (ltb a (suc b))
+  where
+    go : (t : Bool) → mag (cond t (negsuc (suc b - suc a)) (pos (a - suc b))) ≤ a + b
+    go true = omega arith
+    go false = omega arith
+
+pub mag-plus : (a b : ℤ) → mag (a +ℤ b) ≤ mag a + mag b + 1
+mag-plus (pos a) (pos b) = omega arith
+mag-plus (pos a) (negsuc b) = omega (arith, sub-mag a b)
+mag-plus (negsuc a) (pos b) = omega (arith, sub-mag b a)
+mag-plus (negsuc a) (negsuc b) = omega arith
+
+pub mag-minus : (a b : ℤ) → mag (a -ℤ b) ≤ mag a + mag b + 1
+mag-minus a (pos zero) = go a
+  where
+    go : (a : ℤ) → mag (a +ℤ pos 0) ≤ mag a + 0 + 1
+    go (pos n) = omega arith
+    go (negsuc n) = omega (arith, sub-mag 0 n)
+mag-minus a (pos (suc b)) = omega (arith, mag-plus a (negsuc b))
+mag-minus (pos a) (negsuc b) = omega arith
+mag-minus (negsuc a) (negsuc b) = omega (arith, sub-mag (suc b) a)

@@ -7,7 +7,8 @@ use native.Mathlib.Nat.{mul-le-mul-right, le-of-mul-le-mul-right, mul-lt-mul-of-
 use native.Mathlib.Omega.{arith}
 use lib.Dec.{T, ltb, ltb→lt, nltb→le}
 use lib.IntN.{ℤ, pos, negsuc, _+ℤ_, _-ℤ_, negℤ}
-use Rattle.arithmetic.specs.Fraction.{Fraction, _≤ᶠ_, _<ᶠ_, whole, _+ᶠ_, _-ᶠ_, negᶠ, _×ᶠ_, ifPositive, positivePart}
+use Rattle.arithmetic.specs.Rounding.{positivePart}
+use Rattle.arithmetic.specs.Fraction.{Fraction, _≤ᶠ_, _<ᶠ_, whole, _+ᶠ_, _-ᶠ_, negᶠ, _×ᶠ_, ifPositive}
 use Rattle.arithmetic.proofs.IntegerLaws.{above, below, mul-above, mul-below, add-parts, neg-above, neg-below}
 use Rattle.arithmetic.proofs.FractionLaws.{over, under, sum-parts, sum-den, parts-≤ᶠ, parts-<ᶠ, positive-above, positive-below}
 use Rattle.arithmetic.proofs.RatioLaws.{Ratio}

@@ -2,7 +2,7 @@
 -- Assumes nothing.
 use mathlib.Core.Path.{_≡_, refl, ap, _∙_}
 use Prim.Native.Nat.{ℕ, zero, suc, _+_, _*_, _≤_, _<_}
-use native.Mathlib.Nat.{le-refl, le-step, mul-le-mul-right, le-of-mul-le-mul-right, zero-mul}
+use native.Mathlib.Nat.{le-refl, le-step, mul-le-mul-right, le-of-mul-le-mul-right, zero-mul, one-mul, mul-one}
 use native.Mathlib.Omega.{arith}
 use lib.IntN.{ℤ, pos, negsuc, _+ℤ_, _*ℤ_}
 use Rattle.arithmetic.specs.Fraction.{Fraction, _≤ᶠ_, whole, _+ᶠ_, _×ᶠ_, _÷ᶠ_by_, sumᶠ}
@@ -26,6 +26,13 @@ ratio-times {x} {a} {n} k h = record { equal = rw (mul-above (x .num) k) (omega 
 pub ratio-divided : {x : Fraction} {a n : ℕ} (m : ℕ) (m-pos : 0 < m) → Ratio x a n → Ratio (x ÷ᶠ m by m-pos) a (n * m)
 unfolding _÷ᶠ_by_
 ratio-divided m m-pos h = record { equal = omega (arith, ap (λ (s : ℕ). s * m) (h .equal)); sign = h .sign }
+
+-- a natural, and its quotient by m
+pub ratio-natural : (a : ℕ) → Ratio (whole (pos a)) a 1
+ratio-natural a = simp mul-one at (ratio-whole a 1)
+
+pub ratio-quotient : {x : Fraction} {a : ℕ} (m : ℕ) (m-pos : 0 < m) → Ratio x a 1 → Ratio (x ÷ᶠ m by m-pos) a m
+ratio-quotient m m-pos h = simp one-mul at (ratio-divided m m-pos h)
 
 plus-sign : (a b : ℤ) → below a ≡ 0 → below b ≡ 0 → below (a +ℤ b) ≡ 0
 plus-sign (pos a) (pos b) h k = refl

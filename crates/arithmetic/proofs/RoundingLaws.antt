@@ -2,7 +2,7 @@
 -- Assumes nothing.
 use mathlib.Core.Path.{_≡_, refl, sym, ap, _∙_}
 use Prim.Native.Nat.{ℕ, zero, suc, _+_, _-_, _*_, _/_, _%_, _≤_, _<_}
-use native.Mathlib.Nat.{div-add-mod', mod-lt, add-mul-div-right, div-eq-of-lt-le, div-mul-le-self, lt-div-mul-add, div-zero}
+use native.Mathlib.Nat.{div-add-mod', mod-lt, add-mul-div-right, div-eq-of-lt-le, div-mul-le-self, lt-div-mul-add, div-zero, lt-of-mul-lt-mul-right}
 use native.Mathlib.Omega.{arith}
 use lib.IntN.{ℤ, pos, negsuc, _+ℤ_, _*ℤ_}
 use lib.Signed.{_≤ℤ_, _<ℤ_}
@@ -13,6 +13,11 @@ use Rattle.arithmetic.proofs.IntegerLaws.{above, below, parts-le, parts
 pub ceilDiv-is : (n d : ℕ) → 0 < d → (n ≤ ceilDiv n d * d) × (ceilDiv n d * d < n + d)
 unfolding ceilDiv
 ceilDiv-is n d h = (omega (arith, lt-div-mul-add {a = n + (d - 1)} h), omega (arith, div-mul-le-self (n + (d - 1)) d))
+
+pub ceilDiv-le : (n d q : ℕ) → 0 < d → n ≤ q * d → ceilDiv n d ≤ q
+ceilDiv-le n d q h k =
+    let l : ceilDiv n d < q + 1 = lt-of-mul-lt-mul-right d (omega (arith, ceilDiv-is n d h)) in
+    omega arith
 
 -- the greatest q whose product with d is not above z
 floor-low : (z : ℤ) (d : ℕ) → 0 < d → above (floorDiv z d) * d + below z ≤ above z + below (floorDiv z d) * d

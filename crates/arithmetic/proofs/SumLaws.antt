@@ -65,14 +65,14 @@ pub term-le : (n : ℕ) (f : ℕ → ℕ) (i : ℕ) → i < n → f i ≤ sum n 
 term-le n f i h = omega (arith, sum-next i f, sum-part (i + 1) n f (omega arith))
 
 -- n × m terms are n rows of m
-pub sum-rows : (n m : ℕ) (f : ℕ → ℕ) → sum (n * m) f ≡ sum n (λ i. sum m (λ j. f (i * m + j)))
+pub sum-rows : (n m : ℕ) (f : ℕ → ℕ) → sum (n * m) f ≡ sum n (λ i. sum m (λ j. f (m * i + j)))
 unfolding sum
 sum-rows zero m f = let e : 0 * m ≡ 0 = omega arith in rw e refl
-sum-rows (suc n) m f = let e : suc n * m ≡ n * m + m = omega arith in rw e (omega (arith, sum-rows n m f, row m))
+sum-rows (suc n) m f = let e : suc n * m ≡ m * n + m = omega arith in let e′ : n * m ≡ m * n = omega arith in rw e (omega (arith, rw e′ at (sum-rows n m f), row m))
   where
-    row : (k : ℕ) → sum (n * m + k) f ≡ sum (n * m) f + sum k (λ j. f (n * m + j))
-    row zero = let e : n * m + 0 ≡ n * m = omega arith in rw e (omega arith)
-    row (suc k) = let e : n * m + suc k ≡ suc (n * m + k) = omega arith in rw e (omega (arith, row k))
+    row : (k : ℕ) → sum (m * n + k) f ≡ sum (m * n) f + sum k (λ j. f (m * n + j))
+    row zero = let e : m * n + 0 ≡ m * n = omega arith in rw e (omega arith)
+    row (suc k) = let e : m * n + suc k ≡ suc (m * n + k) = omega arith in rw e (omega (arith, row k))
 
 -- ---- double sums over n × n
 abbrev pub sum2 : ℕ → (ℕ → ℕ → ℕ) → ℕ

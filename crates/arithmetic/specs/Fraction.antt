@@ -2,8 +2,9 @@
 -- Assumes nothing.
 use Prim.Native.Nat.{ℕ, zero, suc, _*_, _<_}
 use native.Mathlib.Nat.{mul-pos, zero-lt-suc}
-use lib.IntN.{ℤ, pos, negsuc, _+ℤ_, _*ℤ_, negℤ}
+use lib.IntN.{ℤ, pos, _+ℤ_, _*ℤ_, negℤ}
 use lib.Signed.{_≤ℤ_, _<ℤ_}
+use Rattle.arithmetic.specs.Rounding.{positivePart}
 
 pub record Fraction : Type 0 where
   pub num : ℤ
@@ -40,10 +41,6 @@ unfoldable pub _÷ᶠ_by_ : Fraction → (m : ℕ) → 0 < m → Fraction
 x ÷ᶠ m by m-pos = record { num = x .num; den = x .den * m; positive = mul-pos (x .positive) m-pos }
 
 -- itself if that is positive, otherwise 0
-abbrev pub positivePart : ℤ → ℤ
-positivePart (pos n) = pos n
-positivePart (negsuc n) = pos 0
-
 unfoldable pub ifPositive : Fraction → Fraction
 ifPositive x = record { num = positivePart (x .num); den = x .den; positive = x .positive }
 

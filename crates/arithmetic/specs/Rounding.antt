@@ -1,4 +1,4 @@
--- Quotients rounded down and up. (A quotient of naturals, n / d, is rounded down.) The laws `ceilDiv-is` and `floorDiv-is` say what they are.
+-- Quotients rounded down and up, and the positive part. (A quotient of naturals, n / d, is rounded down.) The laws `ceilDiv-is` and `floorDiv-is` say what they are.
 -- Assumes nothing.
 use Prim.Native.Nat.{ℕ, _+_, _-_, _/_}
 use lib.IntN.{ℤ, pos, negsuc}
@@ -11,3 +11,8 @@ ceilDiv n d = (n + (d - 1)) / d
 unfoldable pub floorDiv : ℤ → ℕ → ℤ
 floorDiv (pos n) d = pos (n / d)
 floorDiv (negsuc n) d = negsuc (n / d)
+
+-- z if that is positive, otherwise 0
+abbrev pub positivePart : ℤ → ℤ
+positivePart (pos n) = pos n
+positivePart (negsuc n) = pos 0

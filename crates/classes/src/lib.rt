@@ -1,7 +1,9 @@
 // Units, land use classes and their constant tables, and the calendar.
 ghost use mathlib.Core.Path.{_≡_};
 ghost use Prim.Native.Nat.{_<_, _^_};
-ghost use lib.IntN.{pos};
+ghost use lib.IntN.{pos, _+ℤ_, _-ℤ_};
+ghost use mir.Syntax.{w64};
+ghost use mir.Val.{SFits};
 ghost use Rattle.classes.specs.Classes.{carbonStocks, emissionFactor};
 ghost use Rattle.classes.specs.Matrix.{tableOf, optionOneMatrix};
 ghost use Rattle.classes.specs.Calendar.{daysInYear};
@@ -17,34 +19,34 @@ pub struct Grams(pub i64);
 
 // Carbon stock by class, hundredths of tC per ha (document 001, table 1).
 const CARBON_STOCKS: [u64; 12] = [
-    9130,
-    13511,
-    5654,
-    4821,
-    0,
-    8415,
-    9240,
-    3986,
-    4265,
-    5654,
-    5654,
-    0,
+    9130, // E
+    13511, // SE
+    5654, // P
+    4821, // D
+    0, // B
+    8415, // M
+    9240, // MR
+    3986, // FF
+    4265, // FR
+    5654, // TP
+    5654, // PP
+    0, // NF
 ];
 
 // Annual probability of deforestation by class, millionths (document 001, table 4).
 const DEFORESTATION_PROBABILITIES: [u64; 12] = [
-    24900,
-    30900,
-    0,
-    34500,
-    14100,
-    10000,
-    41700,
-    50600,
-    97200,
-    116900,
-    0,
-    0,
+    24900, // E
+    30900, // SE
+    0, // P
+    34500, // D
+    14100, // B
+    10000, // M
+    41700, // MR
+    50600, // FF
+    97200, // FR
+    116900, // TP
+    0, // PP
+    0, // NF
 ];
 
 impl Grams {
@@ -54,6 +56,20 @@ impl Grams {
         ensures { λ r. ⌜ r .0 ≡ pos n ⌝ }
     {
         Grams(n as i64)
+    }
+
+    pub fn plus(self, other: Grams) -> Grams
+        requires { ⌜ SFits w64 (self .0 +ℤ other .0) ⌝ }
+        ensures { λ r. ⌜ r .0 ≡ self .0 +ℤ other .0 ⌝ }
+    {
+        Grams(self.0 + other.0)
+    }
+
+    pub fn minus(self, other: Grams) -> Grams
+        requires { ⌜ SFits w64 (self .0 -ℤ other .0) ⌝ }
+        ensures { λ r. ⌜ r .0 ≡ self .0 -ℤ other .0 ⌝ }
+    {
+        Grams(self.0 - other.0)
     }
 }
 

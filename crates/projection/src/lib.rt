@@ -104,10 +104,11 @@ impl Region {
         }
         let before = area_total(areas);
         let after = area_total(next);
+        let lost = before.0 - after.0;
         Projected {
             region: Region {
                 areas: next,
-                balance: AreaUnits(self.balance.0 + (before.0 - after.0)),
+                balance: AreaUnits(self.balance.0 + lost),
             },
             carbon: CarbonUnits(carbon),
         }

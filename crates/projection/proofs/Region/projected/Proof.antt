@@ -103,8 +103,8 @@ area-total-requires c κs = within (c .before .before .before .args .self) (c .b
 area-total-requires-2 : tie.Need-area-total-requires-2 Inv-loop μ-loop
 area-total-requires-2 c κs = rw (all-columns (c .before)) (omega (arith, within (c .before .before .before .before .args .self) (c .before .before .before .before .pre .0), areas-kept (c .before .before .before .before .args .self .areas) (c .before .before .before .before .args .matrix .now) (c .before .before .before .before .pre .1 .0)))
 
-sub-t19 : tie.Need-sub-t19 Inv-loop μ-loop
-sub-t19 c = omega (arith, c .before .before .before .area-total .ensures, c .before .before .area-total2 .ensures ∙ ap areaTotal (all-columns (c .before .before .before .before)), areas-kept (c .before .before .before .before .before .before .before .args .self .areas) (c .before .before .before .before .before .before .before .args .matrix .now) (c .before .before .before .before .before .before .before .pre .1 .0))
+sub-lost : tie.Need-sub-lost Inv-loop μ-loop
+sub-lost c = omega (arith, c .before .before .before .area-total .ensures, c .before .before .area-total2 .ensures ∙ ap areaTotal (all-columns (c .before .before .before .before)), areas-kept (c .before .before .before .before .before .before .before .args .self .areas) (c .before .before .before .before .before .before .before .args .matrix .now) (c .before .before .before .before .before .before .before .pre .1 .0))
 
 add-t20 : tie.Need-add-t20 Inv-loop μ-loop
 add-t20 c = search needs
@@ -129,6 +129,6 @@ projected-spec =
     loop-again
     area-total-requires
     area-total-requires-2
-    sub-t19
+    sub-lost
     add-t20
     returns)

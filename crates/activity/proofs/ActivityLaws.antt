@@ -1,0 +1,64 @@
+-- The bounds of an activity record's grams and of their sum, for records in range.
+-- Assumes nothing.
+use mathlib.Core.List.{List, [], _∷_}
+use Prim.Native.Nat.{ℕ, _+_, _*_, _≤_, _<_}
+use native.Mathlib.Nat.{mul-le-mul, mul-assoc}
+use native.Mathlib.Omega.{arith}
+use lib.Dec.{T, leb, leb→le, lit≤}
+use lib.ListN.{length}
+use Rattle.arithmetic.specs.Rounding.{ceilDiv}
+use Rattle.arithmetic.proofs.RoundingLaws.{ceilDiv-le}
+use Rattle.arithmetic.proofs.TableLaws.{all, all-at}
+use Rattle.activity.specs.declared.Activity.{Activity}
+use Rattle.activity.specs.declared.Activity.the-variants.{Fuel, Vehicles, Nitrogen, Lime}
+use Rattle.activity.specs.Activity.{
+  Within,
+  fuelFactor,
+  n2oShare,
+  limeFactor,
+  ActivityInRange,
+  ActivitiesInRange,
+  numerator,
+  denominator,
+  activityGrams,
+  activityEmissions,
+}
+
+-- ---- no factor of a field in range is above the greatest, by computed tests
+factor-le : (f : ℕ → ℕ) (greatest : ℕ) → T (all 4 (λ x. leb (f x) greatest)) → (x : ℕ) → Within 1 x 3 → f x ≤ greatest
+factor-le f greatest t x h = leb→le (f x) greatest (all-at 4 (λ x. leb (f x) greatest) t x (omega arith))
+
+n2oShare-le : (source crop : ℕ) → Within 1 source 3 → Within 1 crop 2 → n2oShare source crop ≤ 1425
+unfolding all
+n2oShare-le source crop h k = factor-le (λ s. n2oShare s crop) 1425 (all-at 3 (λ c. all 4 (λ s. leb (n2oShare s c) 1425)) tt crop (omega arith)) source h
+
+-- ---- a factor within its bound keeps the grams within theirs
+pub fuel-le : {grams factor : ℕ} → grams ≤ 1000000000000 → factor ≤ 318630 → ceilDiv (grams * factor) 100000 ≤ 4000000000000
+fuel-le g f = ceilDiv-le _ 100000 _ (lit≤ tt) (omega (arith, mul-le-mul g f))
+
+pub lime-le : {grams factor : ℕ} → grams ≤ 1000000000000 → factor ≤ 220 → ceilDiv (grams * factor) 300 ≤ 4000000000000
+lime-le g f = ceilDiv-le _ 300 _ (lit≤ tt) (omega (arith, mul-le-mul g f))
+
+pub nitrogen-le : {nitrogen weight : ℕ} → nitrogen ≤ 100000000000000 → weight ≤ 4671150 → ceilDiv (nitrogen * weight) 7000000000 ≤ 4000000000000
+nitrogen-le n w = ceilDiv-le _ 7000000000 _ (lit≤ tt) (omega (arith, mul-le-mul n w))
+
+-- ---- records
+pub denominator-pos : (a : Activity) → 0 < denominator a
+unfolding denominator
+denominator-pos (Fuel kind grams) = lit≤ tt
+denominator-pos (Vehicles kind count average rate) = lit≤ tt
+denominator-pos (Nitrogen source crop grams content) = lit≤ tt
+denominator-pos (Lime material grams) = lit≤ tt
+
+pub grams-le : (a : Activity) → ActivityInRange a → activityGrams a ≤ 4000000000000
+unfolding activityGrams numerator denominator all
+grams-le (Fuel kind grams) h = fuel-le (h .amount) (factor-le fuelFactor 318630 tt kind (h .kinds))
+grams-le (Vehicles kind count average rate) h = fuel-le (h .product) (factor-le fuelFactor 318630 tt kind (h .kinds))
+grams-le (Nitrogen source crop grams content) h =
+    rw (mul-assoc (grams * content) (n2oShare source crop) 3278) (nitrogen-le (omega (arith, mul-le-mul (h .amount) (h .share))) (omega (arith, n2oShare-le source crop (h .sources) (h .crops))))
+grams-le (Lime material grams) h = lime-le (h .amount) (factor-le limeFactor 220 tt material (h .materials))
+
+pub emissions-le : (records : List Activity) → ActivitiesInRange records → activityEmissions records ≤ 4000000000000 * length records
+unfolding activityEmissions
+emissions-le [] h = omega arith
+emissions-le (a ∷ rest) h = omega (arith, grams-le a (h .0), emissions-le rest (h .1))

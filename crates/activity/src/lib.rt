@@ -1,0 +1,127 @@
+// Activity records and their emissions.
+use classes::Grams;
+ghost use mathlib.Core.Path.{_≡_};
+ghost use Prim.Native.Nat.{_*_, _≤_, _<_};
+ghost use lib.IntN.{pos};
+ghost use Rattle.arithmetic.specs.Rounding.{ceilDiv};
+ghost use Rattle.activity.specs.Activity.{Within, fuelFactor, n2oShare, limeFactor, ActivityInRange, activityGrams};
+
+// An activity record: FU, VE, NI or LI, by its fields.
+pub enum Activity {
+    Fuel {
+        kind: u64,
+        grams: u64,
+    },
+    Vehicles {
+        kind: u64,
+        count: u64,
+        average: u64,
+        rate: u64,
+    },
+    Nitrogen {
+        source: u64,
+        crop: u64,
+        grams: u64,
+        content: u64,
+    },
+    Lime {
+        material: u64,
+        grams: u64,
+    },
+}
+
+// Grams of CO2 from 100,000 grams of a fuel (document 001, J(5)).
+fn fuel_factor(kind: u64) -> u64
+    requires { ⌜ Within 1 kind 3 ⌝ }
+    ensures { λ r. ⌜ (r ≡ fuelFactor kind) × (r ≤ 318630) ⌝ }
+{
+    match kind {
+        1 => 318630,
+        2 => 306999,
+        _ => 310059,
+    }
+}
+
+// Grams of CO2 from 300 grams of lime or urea (document 001, equations 25 and 26).
+fn lime_factor(material: u64) -> u64
+    requires { ⌜ Within 1 material 3 ⌝ }
+    ensures { λ r. ⌜ (r ≡ limeFactor material) × (r ≤ 220) ⌝ }
+{
+    match material {
+        1 => 132,
+        2 => 143,
+        _ => 220,
+    }
+}
+
+// The N2O-N share of applied nitrogen, in 10^-5 (IPCC 2006, volume 4, tables 11.1 and 11.3).
+fn n2o_share(source: u64, crop: u64) -> u64
+    requires { ⌜ Within 1 source 3 ⌝ }
+    requires { ⌜ Within 1 crop 2 ⌝ }
+    ensures { λ r. ⌜ (r ≡ n2oShare source crop) × (r ≤ 1425) ⌝ }
+{
+    let direct = match crop {
+        1 => 1000,
+        _ => 300,
+    };
+    let indirect = match source {
+        1 => 325,
+        2 => 425,
+        _ => 225,
+    };
+    direct + indirect
+}
+
+// FU, and VE by the fuel it comes to.
+fn fuel_emissions(kind: u64, grams: u64) -> u64
+    requires { ⌜ Within 1 kind 3 ⌝ }
+    requires { ⌜ grams ≤ 1000000000000 ⌝ }
+    ensures { λ r. ⌜ (r ≡ ceilDiv (grams * fuelFactor kind) 100000) × (r ≤ 4000000000000) ⌝ }
+{
+    arithmetic::divided_up(grams * fuel_factor(kind), 100000)
+}
+
+// NI. The product of all passes 64 bits, so the quotient of grams × content and its remainder are weighed apart.
+fn nitrogen_emissions(source: u64, crop: u64, grams: u64, content: u64) -> u64
+    requires { ⌜ Within 1 source 3 ⌝ }
+    requires { ⌜ Within 1 crop 2 ⌝ }
+    requires { ⌜ (grams ≤ 10000000000) × (content ≤ 10000) ⌝ }
+    ensures { λ r. ⌜ (r ≡ ceilDiv (grams * content * n2oShare source crop * 3278) 7000000000) × (r ≤ 4000000000000) ⌝ }
+{
+    let weight = n2o_share(source, crop) * 3278;
+    let nitrogen = grams * content;
+    nitrogen / 7000000000 * weight
+        + arithmetic::divided_up(nitrogen % 7000000000 * weight, 7000000000)
+}
+
+// LI.
+fn lime_emissions(material: u64, grams: u64) -> u64
+    requires { ⌜ Within 1 material 3 ⌝ }
+    requires { ⌜ grams ≤ 1000000000000 ⌝ }
+    ensures { λ r. ⌜ (r ≡ ceilDiv (grams * limeFactor material) 300) × (r ≤ 4000000000000) ⌝ }
+{
+    arithmetic::divided_up(grams * lime_factor(material), 300)
+}
+
+// A record's grams of CO2, rounded up by itself.
+pub fn emissions(activity: Activity) -> Grams
+    requires { ⌜ ActivityInRange activity ⌝ }
+    ensures { λ r. ⌜ r .0 ≡ pos (activityGrams activity) ⌝ }
+{
+    match activity {
+        Activity::Fuel { kind, grams } => Grams::of(fuel_emissions(kind, grams)),
+        Activity::Vehicles {
+            kind,
+            count,
+            average,
+            rate,
+        } => Grams::of(fuel_emissions(kind, count * average * rate)),
+        Activity::Nitrogen {
+            source,
+            crop,
+            grams,
+            content,
+        } => Grams::of(nitrogen_emissions(source, crop, grams, content)),
+        Activity::Lime { material, grams } => Grams::of(lime_emissions(material, grams)),
+    }
+}

@@ -1,0 +1,129 @@
+-- A year's figures: what the code's sums and quotients come to, and their ranges.
+-- Assumes nothing.
+use mathlib.Core.Path.{_≡_}
+use mathlib.Core.List.{List}
+use Prim.Native.Nat.{ℕ, suc, _+_, _*_, _/_, _^_, _≤_, _<_}
+use native.Mathlib.Nat.{le-trans, le-of-eq, mul-le-mul, mul-le-mul-left, mul-le-mul-right, div-le-of-le-mul}
+use native.Mathlib.Omega.{arith}
+use lib.Dec.{lit≤}
+use lib.IntN.{ℤ, pos, negsuc, _-ℤ_}
+use lib.Signed.{mag}
+use lib.ListN.{getD}
+use mir.Syntax.{w64}
+use mir.Val.{SFits}
+use borrow.Author.Needs.{sfits-of}
+use Rattle.arithmetic.specs.Sum.{sum}
+use Rattle.arithmetic.specs.Rounding.{floorDiv, positivePart}
+use Rattle.arithmetic.proofs.SumLaws.{sum-rows, sum2-le, sum2-mul}
+use Rattle.arithmetic.proofs.RoundingLaws.{ceilDiv-le}
+use Rattle.arithmetic.proofs.IntegerLaws.{mag-minus}
+use Rattle.classes.specs.Classes.{classes}
+use Rattle.classes.specs.Matrix.{entry}
+use Rattle.figures.specs.declared.Figures.{Figures}
+use Rattle.figures.specs.declared.YearCarbon.{YearCarbon}
+use Rattle.figures.specs.Figures.{
+  referenceLevel,
+  monitoredCarbon,
+  stockChangeEmissions,
+  displacedEmissions,
+  reductionOf,
+  creditedOf,
+  figuresOf,
+}
+use Rattle.figures.specs.Ranges.{SmallCarbon, SmallYear, SmallTable, SmallGrams}
+
+-- a number far within 64 bits fits them
+pub within : {z : ℤ} → mag z < 2 ^ 56 → SFits w64 z
+within h = sfits-of (omega arith)
+
+-- the carbon of all conversions, place by place
+pub monitored-places : (conversions factors : List ℕ) → sum 144 (λ k. getD conversions k 0 * getD factors k 0) ≡ monitoredCarbon (entry factors) conversions
+unfolding monitoredCarbon
+monitored-places conversions factors = sum-rows classes classes (λ k. getD conversions k 0 * getD factors k 0)
+
+pub monitored-small : (conversions : List ℕ) (factor : ℕ → ℕ → ℕ) → SmallTable conversions → ((i j : ℕ) → factor i j ≤ 65535) → SmallCarbon (monitoredCarbon factor conversions)
+unfolding monitoredCarbon
+monitored-small conversions factor small most =
+    le-trans (sum2-le classes (λ i j. entry conversions i j * factor i j) (λ i j. entry conversions i j * 65535) (λ i j h h′. mul-le-mul-left (entry conversions i j) (most i j)))
+    (le-trans (le-of-eq (sum2-mul classes (entry conversions) 65535)) (mul-le-mul-right 65535 (rw (sum-rows classes classes (λ k. getD conversions k 0)) at small)))
+
+-- ---- grams of a year's carbon
+module _ {carbon : ℕ} (small : SmallCarbon carbon) where
+  pub reference-small : {days yeardays : ℕ} → days ≤ yeardays → 0 < yeardays → SmallGrams (pos (referenceLevel carbon days yeardays))
+  unfolding referenceLevel
+  reference-small {days} {yeardays} h positive = omega (arith, div-le-of-le-mul (300 * yeardays) {m = carbon * 11 * days} {n = 2402950000000000} (omega (arith, mul-le-mul small h)))
+
+  pub emissions-small : SmallGrams (pos (stockChangeEmissions carbon))
+  unfolding stockChangeEmissions
+  emissions-small = omega (arith, ceilDiv-le (carbon * 11) 300 2402950000000000 (lit≤ tt) (omega arith))
+
+-- ---- the figures that follow from others
+positive-le : (z : ℤ) → mag (positivePart z) ≤ mag z
+positive-le (pos n) = omega arith
+positive-le (negsuc n) = omega arith
+
+pub displaced-small : (belt reference : ℤ) → SmallGrams belt → SmallGrams reference → mag (displacedEmissions belt reference) < 2 ^ 55
+unfolding displacedEmissions
+displaced-small belt reference b r = omega (arith, positive-le (belt -ℤ reference), mag-minus belt reference)
+
+pub credited-positive : (n : ℕ) → creditedOf (pos n) ≡ pos (4 * n / 5)
+unfolding creditedOf floorDiv
+credited-positive n = let e : n * 4 ≡ 4 * n = omega arith in rw e
+
+pub credited-negative : (n : ℕ) → creditedOf (negsuc n) ≡ negsuc ((4 * n + 3) / 5)
+unfolding creditedOf floorDiv
+credited-negative n = let e : suc n * 4 ≡ suc (4 * n + 3) = omega arith in rw e
+
+credited-le : (reduction : ℤ) → mag (creditedOf reduction) ≤ mag reduction
+credited-le (pos n) = rw (credited-positive n) (omega arith)
+credited-le (negsuc n) = rw (credited-negative n) (omega arith)
+
+-- the differences that make up the reduction
+pub reduction-steps : (reference project activity displaced : ℤ) → SmallGrams reference → SmallGrams project → SmallGrams activity → mag displaced < 2 ^ 55
+    → (mag (reference -ℤ project) < 2 ^ 56) × (mag (reference -ℤ project -ℤ activity) < 2 ^ 56) × (mag (reference -ℤ project -ℤ activity -ℤ displaced) < 2 ^ 56)
+reduction-steps reference project activity displaced r p a d =
+    let one = mag-minus reference project in
+    let two = mag-minus (reference -ℤ project) activity in
+    let three = mag-minus (reference -ℤ project -ℤ activity) displaced in
+    (omega arith, omega arith, omega arith)
+
+-- ---- each of the eight figures is far within 64 bits
+pub record FiguresSmall (figures : Figures) : Type 0 where
+  pub reference : mag (figures .reference .0) < 2 ^ 56
+  pub project : mag (figures .project .0) < 2 ^ 56
+  pub activity : mag (figures .activity .0) < 2 ^ 56
+  pub belt : mag (figures .belt .0) < 2 ^ 56
+  pub belt-reference : mag (figures .«belt_reference» .0) < 2 ^ 56
+  pub displaced : mag (figures .displaced .0) < 2 ^ 56
+  pub reduction : mag (figures .reduction .0) < 2 ^ 56
+  pub credited : mag (figures .credited .0) < 2 ^ 56
+
+pub figures-small : (reference project activity belt beltReference : ℤ) → SmallGrams reference → SmallGrams project → SmallGrams activity → SmallGrams belt → SmallGrams beltReference
+    → FiguresSmall (figuresOf reference project activity belt beltReference)
+unfolding figuresOf reductionOf
+figures-small reference project activity belt beltReference r p a b br =
+    let displaced = displacedEmissions belt beltReference in
+    let d = displaced-small belt beltReference b br in
+    let reduced = reduction-steps reference project activity displaced r p a d .2 in
+    record {
+      reference = omega arith;
+      project = omega arith;
+      activity = omega arith;
+      belt = omega arith;
+      belt-reference = omega arith;
+      displaced = omega arith;
+      reduction = reduced;
+      credited = omega (arith, credited-le (reference -ℤ project -ℤ activity -ℤ displaced));
+    }
+
+-- those that the code makes of a year's carbon and activity
+abbrev pub figuresOfYear : (project belt : YearCarbon) → ℤ → (days yeardays : ℕ) → Figures
+figuresOfYear project belt activity days yeardays =
+    figuresOf (pos (referenceLevel (project .projected .0) days yeardays)) (pos (stockChangeEmissions (project .monitored .0))) activity (pos (stockChangeEmissions (belt .monitored .0))) (pos (referenceLevel (belt .projected .0) days yeardays))
+
+module _ (project belt : YearCarbon) (activity : ℤ) (days yeardays : ℕ) (p : SmallYear project) (b : SmallYear belt) (a : SmallGrams activity) (h : days ≤ yeardays) (positive : 0 < yeardays) where
+  pub year-small : FiguresSmall (figuresOfYear project belt activity days yeardays)
+  year-small = figures-small _ _ activity _ _ (reference-small (p .0) h positive) (emissions-small (p .1)) a (emissions-small (b .1)) (reference-small (b .0) h positive)
+
+  pub credited-small : mag (figuresOfYear project belt activity days yeardays .credited .0) < 2 ^ 56
+  credited-small = year-small .credited

@@ -1,0 +1,4 @@
+pub mod Year
+pub mod Figures
+pub mod Ranges
+pub mod Reckoning

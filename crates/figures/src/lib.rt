@@ -1,0 +1,166 @@
+// The figures of a year.
+use classes::AreaUnits;
+use classes::CarbonUnits;
+use classes::Grams;
+ghost use mathlib.Core.Path.{_≡_};
+ghost use Prim.Native.Nat.{_^_, _≤_, _<_};
+ghost use mathlib.Core.Bool.{cond};
+ghost use lib.Dec.{eqb};
+ghost use lib.IntN.{pos, negsuc};
+ghost use lib.Signed.{mag};
+ghost use Rattle.classes.specs.Classes.{NF};
+ghost use Rattle.classes.specs.Matrix.{entry, tableOf};
+ghost use Rattle.projection.specs.Projection.{FactorsFit};
+ghost use Rattle.figures.specs.Figures.{referenceLevel, monitoredCarbon, countedFactor, stockChangeEmissions, displacedEmissions, creditedOf, tonnesOf, figuresOf};
+ghost use Rattle.figures.specs.Ranges.{SmallCarbon, SmallYear, SmallTable, SmallGrams};
+
+// The eight figures of a year, in the order in which they are reported.
+pub struct Figures {
+    pub reference: Grams,
+    pub project: Grams,
+    pub activity: Grams,
+    pub belt: Grams,
+    pub belt_reference: Grams,
+    pub displaced: Grams,
+    pub reduction: Grams,
+    pub credited: Grams,
+}
+
+// The carbon of a region in a year: by its projection, and by its monitored conversions.
+pub struct YearCarbon {
+    pub projected: CarbonUnits,
+    pub monitored: CarbonUnits,
+}
+
+// The emission factors that count for monitored conversions: under Option 1 only those into NF.
+pub fn counted_factors(option: u64, factors: &[u64; 144]) -> [u64; 144]
+    ensures { λ r. ⌜ r ≡ tableOf (countedFactor option (entry (now (factors .entry)))) ⌝ }
+{
+    let mut counted = [0u64; 144];
+    let mut k: usize = 0;
+    while k < 144 {
+        counted[k] = counted_factor(option, factors[k], k % 12);
+        k += 1;
+    }
+    counted
+}
+
+// A factor into class j, if it counts.
+fn counted_factor(option: u64, factor: u64, j: usize) -> u64
+    ensures { λ r. ⌜ r ≡ cond (eqb option 1) (cond (eqb j NF) factor 0) factor ⌝ }
+{
+    if option == 1 {
+        if j == 11 { factor } else { 0 }
+    } else {
+        factor
+    }
+}
+
+// The carbon of monitored conversions, in area units, by a table of factors.
+pub fn monitored(conversions: &[u64; 144], factors: &[u64; 144]) -> CarbonUnits
+    requires { ⌜ SmallTable (now conversions) ⌝ }
+    requires { ⌜ FactorsFit (now factors) ⌝ }
+    ensures { λ r. ⌜ r .0 ≡ monitoredCarbon (entry (now (factors .entry))) (now (conversions .entry)) ⌝ }
+{
+    let mut carbon: u64 = 0;
+    let mut k: usize = 0;
+    while k < 144 {
+        let c = projection::released(AreaUnits(conversions[k]), factors[k]);
+        carbon = carbon + c.0;
+        k += 1;
+    }
+    CarbonUnits(carbon)
+}
+
+// The reference level for d = days of D = yeardays. Carbon × 11 × d passes 64 bits, so the quotient of the carbon by the divisor and its remainder are weighed apart.
+fn reference_level(carbon: CarbonUnits, days: u64, yeardays: u64) -> Grams
+    requires { ⌜ SmallCarbon (carbon .0) ⌝ }
+    requires { ⌜ (days ≤ yeardays) × (0 < yeardays) × (yeardays ≤ 366) ⌝ }
+    ensures { λ r. ⌜ r .0 ≡ pos (referenceLevel (carbon .0) days yeardays) ⌝ }
+{
+    let weight = 11 * days;
+    let divisor = 300 * yeardays;
+    Grams::of(carbon.0 / divisor * weight + carbon.0 % divisor * weight / divisor)
+}
+
+// The emissions of monitored carbon.
+fn stock_change_emissions(carbon: CarbonUnits) -> Grams
+    requires { ⌜ SmallCarbon (carbon .0) ⌝ }
+    ensures { λ r. ⌜ r .0 ≡ pos (stockChangeEmissions (carbon .0)) ⌝ }
+{
+    Grams::of(arithmetic::divided_up(carbon.0 * 11, 300))
+}
+
+// The emissions displaced into the belt: never below 0.
+fn displaced_emissions(belt: Grams, reference: Grams) -> Grams
+    requires { ⌜ (SmallGrams (belt .0)) × (SmallGrams (reference .0)) ⌝ }
+    ensures { λ r. ⌜ r .0 ≡ displacedEmissions (belt .0) (reference .0) ⌝ }
+{
+    let excess = belt.minus(reference);
+    if excess.0 < 0 {
+        return Grams(0);
+    }
+    excess
+}
+
+// -(n + 1).
+fn negative(n: u64) -> Grams
+    requires { ⌜ n < 2 ^ 63 ⌝ }
+    ensures { λ r. ⌜ r .0 ≡ negsuc n ⌝ }
+{
+    Grams(-1 - (n as i64))
+}
+
+// Four fifths of a reduction, rounded down: of -(n + 1) it is -((4 × n + 3) ÷ 5 + 1).
+fn credited_part(reduction: Grams) -> Grams
+    requires { ⌜ mag (reduction .0) < 2 ^ 60 ⌝ }
+    ensures { λ r. ⌜ r .0 ≡ creditedOf (reduction .0) ⌝ }
+{
+    let n = arithmetic::magnitude(reduction.0);
+    if reduction.0 < 0 {
+        negative((4 * n + 3) / 5)
+    } else {
+        Grams::of(4 * n / 5)
+    }
+}
+
+// The whole tonnes of a total.
+pub fn tonnes(total: Grams) -> u64
+    ensures { λ r. ⌜ r ≡ tonnesOf (total .0) ⌝ }
+{
+    if total.0 < 0 {
+        return 0;
+    }
+    arithmetic::magnitude(total.0) / 1000000
+}
+
+// The figures of a year, from the carbon of the project area and of the belt and the emissions of the activity records.
+pub fn year_figures(
+    project: YearCarbon,
+    belt: YearCarbon,
+    activity: Grams,
+    days: u64,
+    yeardays: u64,
+) -> Figures
+    requires { ⌜ (SmallYear project) × (SmallYear belt) × (SmallGrams (activity .0)) ⌝ }
+    requires { ⌜ (days ≤ yeardays) × (0 < yeardays) × (yeardays ≤ 366) ⌝ }
+    ensures { λ r. ⌜ r ≡ figuresOf (pos (referenceLevel (project .projected .0) days yeardays)) (pos (stockChangeEmissions (project .monitored .0))) (activity .0) (pos (stockChangeEmissions (belt .monitored .0))) (pos (referenceLevel (belt .projected .0) days yeardays)) ⌝ }
+{
+    let reference = reference_level(project.projected, days, yeardays);
+    let emitted = stock_change_emissions(project.monitored);
+    let belt_emitted = stock_change_emissions(belt.monitored);
+    let belt_reference = reference_level(belt.projected, days, yeardays);
+    let displaced = displaced_emissions(belt_emitted, belt_reference);
+    let reduction = reference.minus(emitted).minus(activity).minus(displaced);
+    let credited = credited_part(reduction);
+    Figures {
+        reference,
+        project: emitted,
+        activity,
+        belt: belt_emitted,
+        belt_reference,
+        displaced,
+        reduction,
+        credited,
+    }
+}
