@@ -1,0 +1,5 @@
+pub mod RegionLaws
+pub mod CreditLaws
+pub mod YearLaws
+pub mod Assurance
+pub mod Examples

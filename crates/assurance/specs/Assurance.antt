@@ -1,0 +1,30 @@
+-- What demand 3 assures after n accepted years with m activity records.
+-- Assumes nothing.
+use mathlib.Core.Path.{_≡_}
+use mathlib.Core.List.{List}
+use Prim.Native.Nat.{ℕ, _+_, _*_, _≤_, _<_}
+use lib.IntN.{ℤ, pos}
+use Rattle.arithmetic.specs.Fraction.{Fraction, _≤ᶠ_, _<ᶠ_, whole, _-ᶠ_, _×ᶠ_}
+use Rattle.classes.specs.declared.AreaUnits.{AreaUnits}
+use Rattle.classes.specs.Classes.{classes}
+use Rattle.projection.specs.Projection.{area, areaTotal}
+use Rattle.figures.specs.Reckoning.{Reckoning}
+use Rattle.assurance.specs.Unrounded.{Unrounded}
+
+-- of project area and belt alike, after y accepted years from a starting area: the twelve projected areas and the balance make up the starting
+-- area exactly; no projected area exceeds its unrounded one; the balance is at most 132 × y
+pub record RegionAssured (y start : ℕ) (areas : List AreaUnits) (balance : ℕ) (unrounded : ℕ → Fraction) : Type 0 where
+  pub made-up : areaTotal areas + balance ≡ start
+  pub not-above : (i : ℕ) → i < classes → whole (pos (area areas i)) ≤ᶠ unrounded i
+  pub small : balance ≤ 132 * y
+
+-- of the totals: reported total ≤ unrounded total; 5 × gap < 261,576 × n × (n + 1) + 21 × n + 4 × m where n ≥ 1; both 0 where n = 0
+pub record TotalAssured (n m : ℕ) (total : ℤ) (unrounded : Fraction) : Type 0 where
+  pub never-more : whole total ≤ᶠ unrounded
+  pub gap : 0 < n → (unrounded -ᶠ whole total) ×ᶠ 5 <ᶠ whole (pos (261576 * (n * (n + 1)) + 21 * n + 4 * m))
+  pub none : n ≡ 0 → (total ≡ pos 0) × (unrounded ≡ whole (pos 0))
+
+pub record Assured (n m projectStart beltStart : ℕ) (r : Reckoning) (u : Unrounded) : Type 0 where
+  pub project : RegionAssured n projectStart (r .project .areas) (r .project .balance .0) (u .project)
+  pub belt : RegionAssured n beltStart (r .belt .areas) (r .belt .balance .0) (u .belt)
+  pub total : TotalAssured n m (r .total) (u .total)

@@ -1,0 +1,3 @@
+pub mod Unrounded
+pub mod Assurance
+pub mod Examples

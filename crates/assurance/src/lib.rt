@@ -1,0 +1,1 @@
+// The unrounded reckoning and what demand 3 assures: definitions in specs/, theorems in proofs/.
