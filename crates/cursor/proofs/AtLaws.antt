@@ -1,0 +1,104 @@
+-- Readers at a place of the bytes, in the terms of the code that reads there.
+-- Assumes nothing.
+use Prim.Native.Nat.{ℕ, _+_, _*_, _-_, _<_, _≤_}
+use mathlib.Core.Path.{_≡_, refl, _∙_, ap, sym}
+use mathlib.Core.Bool.{Bool, true, false, cond}
+use mathlib.Core.List.{List}
+use native.Mathlib.Nat.{add-assoc}
+use native.Mathlib.Omega.{arith}
+use lib.Dec.{eqb}
+use lib.ListN.{length, take, drop, length-drop}
+use lib.Seq.{drop-drop}
+use borrow.Author.Tests.{lt-ltb, le-ltb, eq-eqb, ne-eqb}
+use Rattle.wire.specs.Bytes.{number, numbers, fieldAt}
+use Rattle.dossier.specs.Reader.{Judged, refused, accepted, Reader, after, _>>=_, _>>_, give, refuse, mark, stands, upon, present, begin, field, fields, outside, within, equal}
+use Rattle.cursor.specs.Answers.{begunSays}
+
+-- ---- the four ways in which a record begins
+module _ (m n : ℕ) (s : List ℕ) (at : ℕ) where
+  pub begin-short : length s - at < 2 → refused 1 ≡ begin m n (drop at s)
+  unfolding begin mark _>>_
+  begin-short h = let k : length (drop at s) < 2 = rw length-drop h in simp (lt-ltb _ _ k)
+
+  module _ (long : 2 ≤ length s - at) (x : ℕ) (e : x ≡ fieldAt 2 s at) where
+    two : 2 ≤ length (drop at s)
+    two = rw length-drop long
+
+    pub begin-other : (x ≡ m → ⊥) → refused 2 ≡ begin m n (drop at s)
+    unfolding begin mark fieldAt _>>_
+    begin-other f = let g : number (take 2 (drop at s)) ≡ m → ⊥ = λ d. f (e ∙ d) in simp (le-ltb _ _ two, ne-eqb _ _ g)
+
+    pub begin-cut : x ≡ m → length s - at - 2 < n → refused 1 ≡ begin m n (drop at s)
+    unfolding begin mark present fieldAt _>>_
+    begin-cut f l = let j : length (drop 2 (drop at s)) < n = simp length-drop l in simp (le-ltb _ _ two, eq-eqb _ _ (sym e ∙ f), lt-ltb _ _ j)
+
+    pub begin-whole : x ≡ m → n ≤ length s - at - 2 → accepted tt (drop (at + 2) s) ≡ begin m n (drop at s)
+    unfolding begin mark present fieldAt _>>_
+    begin-whole f l = let j : n ≤ length (drop (at + 2) s) = simp length-drop (omega arith) in simp (le-ltb _ _ two, eq-eqb _ _ (sym e ∙ f), le-ltb _ _ j, drop-drop)
+
+-- ---- what `begun` says of a record and its fields q
+module _ (s : List ℕ) (at m n r : ℕ) (h : begunSays s at r ≡ begin m n (drop at s)) where
+  pub begun-no : {B : Type 0} (q : Reader B) → (r ≡ 0 → ⊥) → refused r ≡ (begin m n >> q) (drop at s)
+  unfolding _>>_
+  begun-no q f = rw (← h) (rw (ne-eqb r 0 f))
+
+  pub begun-yes : {B : Type 0} (q : Reader B) → r ≡ 0 → q (drop (at + 2) s) ≡ (begin m n >> q) (drop at s)
+  unfolding _>>_
+  begun-yes q f = rw (← h) (rw (eq-eqb r 0 f))
+
+-- ---- each step of a reader as a rule that rewrites: `simp reading` turns the fields at a place into nested tests
+pub field-is : {B : Type 0} (w : ℕ) (k : ℕ → Reader B) (s : List ℕ) (at : ℕ) → (field w >>= k) (drop at s) ≡ k (fieldAt w s at) (drop (at + w) s)
+unfolding field fieldAt _>>=_
+field-is w k s at = rw drop-drop
+
+pub fields-is : {B : Type 0} (j w : ℕ) (k : List ℕ → Reader B) (s : List ℕ) (at : ℕ) → (fields j w >>= k) (drop at s) ≡ k (numbers j w (drop at s)) (drop (at + j * w) s)
+unfolding fields _>>=_
+fields-is j w k s at = rw drop-drop
+
+pub within-is : {B : Type 0} (n low x high : ℕ) (q : Reader B) (s : List ℕ) → (within n low x high >> q) s ≡ cond (outside low x high) (refused n) (q s)
+unfolding within _>>_
+within-is n low x high q s = go (outside low x high)
+  where
+    go : (b : Bool) → after (cond b (refused n) (accepted (tt {0}) s)) (λ _. q) ≡ cond b (refused n) (q s)
+    go true = refl
+    go false = refl
+
+pub equal-is : {B : Type 0} (n x y : ℕ) (q : Reader B) (s : List ℕ) → (equal n x y >> q) s ≡ cond (eqb x y) (q s) (refused n)
+unfolding equal _>>_
+equal-is n x y q s = go (eqb x y)
+  where
+    go : (b : Bool) → after (cond b (accepted (tt {0}) s) (refused n)) (λ _. q) ≡ cond b (q s) (refused n)
+    go true = refl
+    go false = refl
+
+pub give-is : {A : Type 0} (a : A) (s : List ℕ) → give a s ≡ accepted a s
+unfolding give
+give-is a s = refl
+
+pub ruleset reading = (field-is, fields-is, within-is, equal-is, give-is, add-assoc)
+
+-- ---- one reader after another, from what the first one gives
+pub bind-no : {A B : Type 0} (r : Reader A) (k : A → Reader B) (u : List ℕ) (n : ℕ) → refused n ≡ r u → refused n ≡ (r >>= k) u
+unfolding _>>=_
+bind-no r k u n e = rw (← e)
+
+pub bind-yes : {A B : Type 0} (r : Reader A) (k : A → Reader B) (u : List ℕ) (a : A) (v : List ℕ) → accepted a v ≡ r u → k a v ≡ (r >>= k) u
+unfolding _>>=_
+bind-yes r k u a v e = rw (← e)
+
+pub bind-bind : {A B C : Type 0} (j : Judged A) (k : A → Reader B) (g : B → Reader C) → after (after j k) g ≡ after j (λ a u. after (k a u) g)
+bind-bind (refused n) k g = refl
+bind-bind (accepted a u) k g = refl
+
+pub after-same : {A B : Type 0} (j : Judged A) (k l : A → Reader B) → ((a : A) (u : List ℕ) → k a u ≡ l a u) → after j k ≡ after j l
+after-same (refused n) k l h = refl
+after-same (accepted a u) k l h = h a u
+
+-- ---- whether a mark of some kind stands at a place
+pub stands-short : (kind : ℕ → Bool) (s : List ℕ) (at : ℕ) → length s - at < 2 → stands kind (drop at s) ≡ false
+unfolding stands
+stands-short kind s at h = let k : length (drop at s) < 2 = rw length-drop h in simp (lt-ltb _ _ k)
+
+pub stands-here : (kind : ℕ → Bool) (s : List ℕ) (at x : ℕ) → 2 ≤ length s - at → x ≡ fieldAt 2 s at → stands kind (drop at s) ≡ kind x
+unfolding stands fieldAt
+stands-here kind s at x h e = let k : 2 ≤ length (drop at s) = rw length-drop h in simp (le-ltb _ _ k, ← e)

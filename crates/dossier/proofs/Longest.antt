@@ -1,0 +1,153 @@
+-- "The longest dossier is 65,062 bytes."
+-- Assumes nothing.
+use Prim.Native.Nat.{ℕ, zero, suc, _*_, _%_, _≤_}
+use mathlib.Core.Path.{_≡_, refl, sym}
+use mathlib.Core.Bool.{Bool, true, false, cond}
+use mathlib.Core.Option.{Option, none, some}
+use mathlib.Core.List.{List, [], _∷_, map}
+use native.Mathlib.Omega.{arith}
+use lib.Dec.{eqb, lit≤}
+use lib.ListN.{length, length-append, replicate}
+use Rattle.arithmetic.specs.Sum.{listed}
+use Rattle.classes.specs.Classes.{deforestationProbabilities}
+use Rattle.classes.specs.Calendar.{daysInYear}
+use Rattle.classes.specs.Matrix.{optionOne, optionOneMatrix}
+use Rattle.classes.proofs.MatrixLaws.{option-one-rows}
+use Rattle.activity.specs.declared.Activity.{Activity}
+use Rattle.activity.specs.declared.Activity.the-variants.{Fuel, Vehicles, Nitrogen, Lime}
+use Rattle.activity.specs.Activity.{ActivityInRange}
+use Rattle.figures.specs.Year.{Year}
+use Rattle.wire.specs.Bytes.{Bytes, bytes, bytesOfEach, joined, total}
+use Rattle.dossier.specs.Records.{headBytes, areasBytes, matrixBytes, MatrixUnder, Opening, OpeningInRange, optionBytes, openingBytes, Due, settled, next, conversionsBytes, activityBytes, All, YearInRange, yearBytes, YearsInRange, Dossier, DossierInRange, dossierBytes}
+use Rattle.dossier.specs.Reader.{accepted}
+use Rattle.dossier.specs.Judging.{dossier}
+use Rattle.wire.proofs.BytesLaws.{length-bytes, length-each}
+use Rattle.dossier.proofs.WellFormed.{dossier-accepted}
+
+ruleset lengths = (length-append, length-bytes, length-each)
+
+activity-length : (a : Activity) → length (activityBytes a) ≤ 15
+unfolding activityBytes joined
+activity-length (Fuel _ _) = simp lengths (omega arith)
+activity-length (Vehicles _ _ _ _) = simp lengths (omega arith)
+activity-length (Nitrogen _ _ _ _) = simp lengths (omega arith)
+activity-length (Lime _ _) = simp lengths (omega arith)
+
+run-length : (l : List Activity) → length (joined (map activityBytes l)) ≤ length l * 15
+unfolding joined
+run-length [] = omega arith
+run-length (a ∷ l) = let h = activity-length a in let k = run-length l in simp length-append (omega arith)
+
+year-length : (due : Due) (y : Year) → YearInRange due y → length (yearBytes y) ≤ 3214
+unfolding yearBytes conversionsBytes joined
+year-length due y p =
+    let r = run-length (y .activities) in
+    let a = p .conversions .count in
+    let b = p .beltConversions .count in
+    simp lengths (omega arith)
+
+years-length : (due : Due) (l : List Year) → YearsInRange due l → length (joined (map yearBytes l)) ≤ length l * 3214
+unfolding joined
+years-length due [] p = omega arith
+years-length due (y ∷ l) p =
+    let h = year-length due y (p .0) in
+    let k = years-length (next due) l (p .1) in
+    simp length-append (omega arith)
+
+option-length : (option : ℕ) (m : Option (List ℕ)) → MatrixUnder option m → length (optionBytes m) ≤ 578
+unfolding optionBytes matrixBytes joined
+option-length option none p = omega arith
+option-length option (some xs) p = let h = p .1 .count in simp lengths (omega arith)
+
+opening-length : (o : Opening) → OpeningInRange o → length (openingBytes o) ≤ 780
+unfolding openingBytes headBytes areasBytes joined
+opening-length o p =
+    let m = option-length (o .head .option) (o .matrix) (p .matrix) in
+    let a = p .projectAreas .twelve in
+    let b = p .beltAreas .twelve in
+    simp lengths (omega arith)
+
+dossier-length : (d : Dossier) → DossierInRange d → length (dossierBytes d) ≤ 65062
+unfolding dossierBytes joined
+dossier-length d p =
+    let o = opening-length (d .opening) (p .opening) in
+    let y = years-length _ (d .years) (p .years) in
+    let c = p .count in
+    let n = p .opening .head .count in
+    simp (length-append, length-bytes) (omega arith)
+
+-- of accepted bytes
+pub longest : (s : List ℕ) → Bytes s → (d : Dossier) (rest : List ℕ) → dossier s ≡ accepted d rest → length s ≤ 65062
+longest s bs d rest q = let w = dossier-accepted .sound s bs d rest q in rw (w .1) (dossier-length d (w .0))
+
+-- ---- and one of that length is accepted: Option 2, 20 years, each with 60 records of VE
+abbrev longestYear : ℕ → Year
+longestYear y = record {
+  year = y;
+  operatingDays = 1;
+  conversions = 1 ∷ replicate 143 0;
+  beltConversions = replicate 144 0;
+  activities = replicate 60 (Vehicles 1 0 0 0);
+}
+
+abbrev longestYears : ℕ → ℕ → List Year
+longestYears zero y = []
+longestYears (suc k) y = longestYear y ∷ longestYears k (suc y)
+
+abbrev pub longestDossier : Dossier
+longestDossier = record {
+  opening = record {
+    head = record { option = 2; firstYear = 2000; years = 20 };
+    projectAreas = 1 ∷ replicate 11 0;
+    beltAreas = replicate 12 0;
+    matrix = some optionOneMatrix;
+  };
+  years = longestYears 20 2000;
+}
+
+all-alike : (n : ℕ) → All ActivityInRange (replicate n (Vehicles 1 0 0 0))
+all-alike zero = tt
+all-alike (suc n) = (omega arith, all-alike n)
+
+days-some : (y : ℕ) → 1 ≤ daysInYear y
+unfolding daysInYear
+days-some y = go (eqb (y % 400) 0) (eqb (y % 100) 0) (eqb (y % 4) 0)
+  where
+    go : (a b d : Bool) → 1 ≤ cond a 366 (cond b 365 (cond d 366 365))
+    go true b d = lit≤ tt
+    go false true d = lit≤ tt
+    go false false true = lit≤ tt
+    go false false false = lit≤ tt
+
+longest-years : (k : ℕ) (due : Due) → due .left ≡ k → due .projectTotal ≡ 1 → due .beltTotal ≡ 0 → YearsInRange due (longestYears k (due .nextYear))
+unfolding next total
+longest-years zero due l p b = tt
+longest-years (suc k) due l p b = (
+  record {
+    left = omega arith;
+    year = refl;
+    days = omega (arith, days-some (due .nextYear));
+    conversions = record { count = refl; totals = sym p };
+    beltConversions = record { count = refl; totals = sym b };
+    count = lit≤ tt;
+    activities = all-alike 60;
+  },
+  longest-years k (next due) (omega arith) p b,
+)
+
+pub longest-accepted : (dossier (dossierBytes longestDossier) ≡ accepted longestDossier []) × (length (dossierBytes longestDossier) ≡ 65062)
+longest-accepted = (dossier-accepted .complete longestDossier in-range, size)
+  where
+    opened : OpeningInRange (longestDossier .opening)
+    opened = unfold total listed optionOneMatrix in record {
+      head = record { options = omega arith; firstYears = omega arith; count = omega arith };
+      projectAreas = record { twelve = refl; totals = omega arith };
+      beltAreas = record { twelve = refl; totals = omega arith };
+      matrix = (refl, record { count = refl; rows = option-one-rows });
+    }
+
+    in-range : DossierInRange longestDossier
+    in-range = unfold settled total in record { opening = opened; count = refl; years = longest-years 20 (settled (longestDossier .opening)) refl refl refl }
+
+    size : length (dossierBytes longestDossier) ≡ 65062
+    size = unfold listed deforestationProbabilities optionOne optionOneMatrix bytes bytesOfEach joined headBytes areasBytes matrixBytes optionBytes openingBytes conversionsBytes activityBytes yearBytes dossierBytes in refl

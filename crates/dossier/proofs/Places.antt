@@ -1,0 +1,125 @@
+-- The numbers at their place in a dossier: after an opening and k years in range, what follows decides.
+-- Assumes nothing.
+use Prim.Native.Nat.{ℕ, zero, suc, _+_, _-_, _<_}
+use mathlib.Core.Path.{_≡_, refl, _∙_, ap, sym}
+use mathlib.Core.Bool.{cond}
+use mathlib.Core.List.{List, [], _∷_, _++_, map, append-assoc, append-nil}
+use native.Mathlib.Omega.{arith}
+use borrow.Author.Tests.{lt-ltb}
+use lib.Dec.{ltb, lit<}
+use lib.ListN.{length, take, length-append}
+use Rattle.figures.specs.Year.{Year}
+use Rattle.wire.specs.Bytes.{number, bytes, joined}
+use Rattle.dossier.specs.Marks.{YR, EN}
+use Rattle.dossier.specs.Records.{Opening, OpeningInRange, openingBytes, Due, settled, next, DueInRange, YearInRange, yearBytes, YearsInRange}
+use Rattle.dossier.specs.Reader.{refused, accepted, Reader, _>>=_, _>>_, give, stands, endOfPiece}
+use Rattle.dossier.specs.JudgingRecords.{activityMark}
+use Rattle.dossier.specs.Judging.{opening, year, end, years, dossier, openingPiece, yearPiece}
+use Rattle.wire.proofs.BytesLaws.{length-bytes, take-bytes}
+use Rattle.dossier.proofs.ReaderLaws.{stands-bytes}
+use Rattle.dossier.proofs.Refusals.{first-fault, first-fault′, year-short, year-other, end-none-left, after-end, lone-byte, beyond-piece}
+use Rattle.dossier.proofs.OpeningLaws.{opening-exact}
+use Rattle.dossier.proofs.RunLaws.{Over}
+use Rattle.dossier.proofs.YearLaws.{year-exact, year-begins}
+use Rattle.dossier.proofs.DossierLaws.{Room, room-due, room-next, room-opening}
+
+-- what is settled after years
+pub dueAfter : List Year → Due → Due
+dueAfter [] due = due
+dueAfter (y ∷ l) due = dueAfter l (next due)
+
+next-over : (l : List Year) (t : List ℕ) → Over t → Over (joined (map yearBytes l) ++ t)
+unfolding joined activityMark
+next-over [] t o = o
+next-over (y ∷ l) t o = rw append-assoc (year-begins activityMark y (joined (map yearBytes l) ++ t))
+
+pub years-step : (k : ℕ) (due : Due) (before : List Year) (s : List ℕ) {y : Year} {u : List ℕ} → year due s ≡ accepted y u → years (suc k) due before s ≡ years k (next due) (before ++ (y ∷ [])) u
+unfolding years _>>=_
+years-step k due before s e = rw e
+
+-- years in range are read, and the judgement goes on at what follows them
+years-continue : (l : List Year) (k n : ℕ) → n ≡ length l + k → (due : Due) → Room n due → (before : List Year) (t : List ℕ) → YearsInRange due l → Over t
+    → years n due before (joined (map yearBytes l) ++ t) ≡ years k (dueAfter l due) (before ++ l) t
+unfolding joined dueAfter
+years-continue [] k n e due r before t p o = let z : n ≡ k = omega arith in rw (z, append-nil)
+years-continue (y ∷ l) k zero e due r before t p o = absurd (omega arith)
+years-continue (y ∷ l) k (suc n) e due r before t p o =
+    let u = joined (map yearBytes l) ++ t in
+    let x = year-exact due (room-due due r) .reads y u tt (p .0, next-over l t o) in
+    let i = years-continue l k n (omega arith) (next due) (room-next due r) (before ++ (y ∷ [])) t (p .1) o in
+    let a = append-assoc before (y ∷ []) l in
+    rw append-assoc (years-step n due before (yearBytes y ++ u) x ∙ i ∙ ap (λ (m : List Year). years k (dueAfter l (next due)) m t) a)
+
+module _ (o : Opening) (p : OpeningInRange o) (l : List Year) (q : YearsInRange (settled o) l) where
+  -- the bytes of the opening and of the years, and t after them
+  abbrev so-far : List ℕ → List ℕ
+  so-far t = openingBytes o ++ (joined (map yearBytes l) ++ t)
+
+  abbrev then-due : Due
+  then-due = dueAfter l (settled o)
+
+  dossier-continues : (k : ℕ) → o .head .years ≡ length l + k → (t : List ℕ) → Over t → (n : ℕ) → years k then-due l t ≡ refused n → dossier (so-far t) ≡ refused n
+  unfolding dossier _>>=_
+  dossier-continues k e t v n h =
+      rw (opening-exact .reads o (joined (map yearBytes l) ++ t) tt p, years-continue l k (o .head .years) e (settled o) (room-opening o p _ (omega arith)) [] t q v, h)
+
+  -- fewer than n years are given: the next year's fault is the dossier's
+  pub year-fault : length l < o .head .years → (t : List ℕ) → Over t → (n : ℕ) → year then-due t ≡ refused n → dossier (so-far t) ≡ refused n
+  year-fault h t v n e = go (o .head .years - length l) (omega arith) (omega arith)
+    where
+      go : (k : ℕ) → o .head .years ≡ length l + k → 0 < k → dossier (so-far t) ≡ refused n
+      go zero d z = absurd (omega arith)
+      go (suc k) d z = dossier-continues (suc k) d t v n (unfold years in first-fault (year then-due) _ t n e)
+
+  -- "EN is due only after n years": before, it is 2
+  pub early-end : length l < o .head .years → (t : List ℕ) → dossier (so-far (bytes 2 EN ++ t)) ≡ refused 2
+  unfolding activityMark
+  early-end h t =
+      let n : number (take 2 (bytes 2 EN ++ t)) ≡ EN = take-bytes 2 EN t (lit< tt) in
+      year-fault h _ (stands-bytes activityMark EN t (lit< tt)) 2
+      (year-other then-due _ (simp (length-append, length-bytes) (omega arith)) (λ e. let z : EN ≡ YR = sym n ∙ e in omega arith))
+
+  -- the bytes end where a mark is needed
+  pub ends-early : length l < o .head .years → (t : List ℕ) → length t < 2 → dossier (so-far t) ≡ refused 1
+  unfolding stands
+  ends-early h t s = year-fault h t (simp (lt-ltb _ _ s)) 1 (year-short then-due t s)
+
+  -- n years are given: "YR stays due there and gives 6", or 1 where it is cut
+  pub late-year : length l ≡ o .head .years → (t : List ℕ) → dossier (so-far (bytes 2 YR ++ t)) ≡ refused (cond (ltb (length t) 4) 1 6)
+  unfolding activityMark
+  late-year h t =
+      dossier-continues 0 (omega arith) _ (stands-bytes activityMark YR t (lit< tt)) _
+      (unfold years in first-fault′ end _ (bytes 2 YR ++ t) _ (end-none-left t))
+
+  -- "bytes after EN" are 2
+  pub beyond-end : length l ≡ o .head .years → (b : ℕ) (t : List ℕ) → dossier (so-far (bytes 2 EN ++ (b ∷ t))) ≡ refused 2
+  unfolding activityMark
+  beyond-end h b t =
+      dossier-continues 0 (omega arith) _ (stands-bytes activityMark EN (b ∷ t) (lit< tt)) 2
+      (unfold years in first-fault′ end _ (bytes 2 EN ++ (b ∷ t)) 2 (after-end b t))
+
+-- ---- after a piece: "a lone byte left over there is 1, any mark beyond the piece 2"
+piece-fault : {A : Type 0} (r : Reader A) (s : List ℕ) {a : A} {t : List ℕ} (n : ℕ) → r s ≡ accepted a t → endOfPiece t ≡ refused n → (r >>= λ a. endOfPiece >> give a) s ≡ refused n
+unfolding _>>=_ _>>_
+piece-fault r s n e f = rw (e, f)
+
+module _ (o : Opening) (p : OpeningInRange o) where
+  pub opening-lone : (b : ℕ) → openingPiece (openingBytes o ++ (b ∷ [])) ≡ refused 1
+  unfolding openingPiece
+  opening-lone b = piece-fault opening _ 1 (opening-exact .reads o (b ∷ []) tt p) (lone-byte b)
+
+  pub opening-beyond : (b c : ℕ) (t : List ℕ) → openingPiece (openingBytes o ++ (b ∷ c ∷ t)) ≡ refused 2
+  unfolding openingPiece
+  opening-beyond b c t = piece-fault opening _ 2 (opening-exact .reads o (b ∷ c ∷ t) tt p) (beyond-piece b c t)
+
+module _ (due : Due) (h : DueInRange due) (y : Year) (p : YearInRange due y) where
+  pub year-lone : (b : ℕ) → yearPiece due (yearBytes y ++ (b ∷ [])) ≡ refused 1
+  unfolding yearPiece
+  year-lone b = piece-fault (year due) _ 1 (year-exact due h .reads y (b ∷ []) tt (p, alone b)) (lone-byte b)
+    where
+      alone : (b : ℕ) → Over (b ∷ [])
+      alone b = unfold stands in refl
+
+  pub year-beyond : (b c : ℕ) (t : List ℕ) → Over (b ∷ c ∷ t) → yearPiece due (yearBytes y ++ (b ∷ c ∷ t)) ≡ refused 2
+  unfolding yearPiece
+  year-beyond b c t v = piece-fault (year due) _ 2 (year-exact due h .reads y (b ∷ c ∷ t) tt (p, v)) (beyond-piece b c t)

@@ -1,0 +1,124 @@
+-- The number of each refusal, where document 01 says it ("Causes and numbers", "Calls and sheet", "Slips seen in the old product").
+-- Assumes nothing.
+use Prim.Native.Nat.{ℕ, suc, _+_, _*_, _≤_, _<_}
+use mathlib.Core.Path.{_≡_, refl, _∙_, sym}
+use mathlib.Core.Bool.{Bool, true, false, cond}
+use mathlib.Core.List.{List, [], _∷_, _++_}
+use native.Mathlib.Omega.{arith}
+use borrow.Author.Tests.{lt-ltb, le-ltb, eq-eqb, ne-eqb}
+use lib.Dec.{ltb, eqb, lit<}
+use lib.ListN.{length, take}
+use Rattle.activity.specs.declared.Activity.{Activity}
+use Rattle.activity.specs.Activity.{Within}
+use Rattle.wire.specs.Bytes.{number, bytes}
+use Rattle.dossier.specs.Marks.{YR, EN}
+use Rattle.dossier.specs.Records.{Due, Dossier}
+use Rattle.dossier.specs.Reader.{refused, accepted, Reader, after, _>>=_, _>>_, refuse, mark, stands, is, upon, present, begin, nothing, endOfPiece}
+use Rattle.dossier.specs.JudgingRecords.{activityMark}
+use Rattle.dossier.specs.Judging.{run, activities, noneLeft, yearDue, year, end, dossier, bufferNumber, callNumber}
+use Rattle.dossier.proofs.ReaderLaws.{no, was, mark-yes, stands-bytes}
+
+-- the causes of bytes have the numbers 1 to 9
+abbrev pub Numbered : {A : Type 0} → Reader A → Type 0
+Numbered r = (s : List ℕ) (n : ℕ) → r s ≡ refused n → Within 1 n 9
+
+-- "the first fault counts"
+pub first-fault : {A B : Type 0} (r : Reader A) (f : A → Reader B) (s : List ℕ) (n : ℕ) → r s ≡ refused n → (r >>= f) s ≡ refused n
+unfolding _>>=_
+first-fault r f s n e = rw e
+
+pub first-fault′ : {A B : Type 0} (r : Reader A) (q : Reader B) (s : List ℕ) (n : ℕ) → r s ≡ refused n → (r >> q) s ≡ refused n
+unfolding _>>_
+first-fault′ r q s n e = rw e
+
+-- "mark, .., bytes missing": 1 where the mark is cut, 2 where it is another, however few bytes follow, 1 where the record is cut
+pub begin-short : (m n : ℕ) (s : List ℕ) → length s < 2 → begin m n s ≡ refused 1
+unfolding begin mark _>>_
+begin-short m n s h = simp (lt-ltb _ _ h)
+
+pub begin-other : (m n : ℕ) (s : List ℕ) → 2 ≤ length s → (number (take 2 s) ≡ m → ⊥) → begin m n s ≡ refused 2
+unfolding begin mark _>>_
+begin-other m n s h f = simp (le-ltb _ _ h, ne-eqb _ _ f)
+
+pub begin-cut : (m n : ℕ) (t : List ℕ) → m < 65536 → length t < n → begin m n (bytes 2 m ++ t) ≡ refused 1
+unfolding begin present _>>_
+begin-cut m n t h l = rw (mark-yes m t h) (simp (lt-ltb _ _ l))
+
+-- the 61st activity record: its mark alone gives 9, whatever follows it
+run-full : (k : ℕ) (before : List Activity) (s : List ℕ) → k ≡ 0 → stands activityMark s ≡ true → run k before s ≡ refused 9
+unfolding run upon refuse
+run-full k before s z e = rw (z, e)
+
+pub sixty-first : (before : List Activity) (s : List ℕ) → 60 ≤ length before → stands activityMark s ≡ true → activities before s ≡ refused 9
+unfolding activities
+sixty-first before s h e = run-full _ before s (omega arith) e
+
+-- "YR stays due there and gives 6": 1 where the record is cut, 6 where it is complete, whatever follows it
+cut-or : {A : Type 0} (n : ℕ) (b : Bool) (t : List ℕ) → after {B = A} (cond b (refused 1) (accepted (tt {0}) t)) (λ _. refuse n) ≡ refused (cond b 1 n)
+unfolding refuse
+cut-or n true t = refl
+cut-or n false t = refl
+
+pub none-left : {A : Type 0} (t : List ℕ) → noneLeft {A = A} (bytes 2 YR ++ t) ≡ refused (cond (ltb (length t) 4) 1 6)
+unfolding noneLeft begin present _>>_
+none-left t = rw (mark-yes YR t (lit< tt)) (cut-or _ (ltb (length t) 4) t)
+
+pub year-none-left : (due : Due) (t : List ℕ) → due .left ≡ 0 → year due (bytes 2 YR ++ t) ≡ refused (cond (ltb (length t) 4) 1 6)
+unfolding year
+year-none-left due t h = rw (eq-eqb _ _ h) (none-left t)
+
+pub end-none-left : (t : List ℕ) → end (bytes 2 YR ++ t) ≡ refused (cond (ltb (length t) 4) 1 6)
+unfolding end upon
+end-none-left t = rw (stands-bytes (is YR) YR t (lit< tt)) (none-left t)
+
+-- where a year is due: 1 where the bytes end before or inside its mark, 2 for any other mark, so for EN "before n years"
+pub year-short : (due : Due) (s : List ℕ) → length s < 2 → year due s ≡ refused 1
+unfolding year yearDue noneLeft
+year-short due s h = go (eqb (due .left) 0)
+  where
+    go : (b : Bool) → cond b noneLeft (yearDue due) s ≡ refused 1
+    go true = first-fault′ _ _ s 1 (begin-short YR 4 s h)
+    go false = first-fault′ _ _ s 1 (begin-short YR 4 s h)
+
+pub year-other : (due : Due) (s : List ℕ) → 2 ≤ length s → (number (take 2 s) ≡ YR → ⊥) → year due s ≡ refused 2
+unfolding year yearDue noneLeft
+year-other due s h f = go (eqb (due .left) 0)
+  where
+    go : (b : Bool) → cond b noneLeft (yearDue due) s ≡ refused 2
+    go true = first-fault′ _ _ s 2 (begin-other YR 4 s h f)
+    go false = first-fault′ _ _ s 2 (begin-other YR 4 s h f)
+
+-- ---- the ends: after EN any byte is 2; after a piece a lone byte is 1, more bytes are 2
+pub after-end : (b : ℕ) (t : List ℕ) → end (bytes 2 EN ++ (b ∷ t)) ≡ refused 2
+unfolding end upon nothing _>>_
+after-end b t = rw (stands-bytes (is YR) EN (b ∷ t) (lit< tt), mark-yes EN (b ∷ t) (lit< tt)) (simp (lt-ltb 0 (suc (length t)) (omega arith)))
+
+pub lone-byte : (b : ℕ) → endOfPiece (b ∷ []) ≡ refused 1
+unfolding endOfPiece nothing
+lone-byte b = refl
+
+pub beyond-piece : (b c : ℕ) (t : List ℕ) → endOfPiece (b ∷ c ∷ t) ≡ refused 2
+unfolding endOfPiece nothing
+beyond-piece b c t = simp (ne-eqb (suc (suc (length t))) 1 (λ e. omega arith), lt-ltb 0 (suc (suc (length t))) (omega arith))
+
+pub piece-ends : endOfPiece [] ≡ accepted tt []
+unfolding endOfPiece nothing
+piece-ends = refl
+
+pub piece-ends-only : (s : List ℕ) {x : Unit {0}} {t : List ℕ} → endOfPiece s ≡ accepted x t → (s ≡ []) × (t ≡ [])
+piece-ends-only [] e = (refl, sym (was (sym piece-ends ∙ e) .1))
+piece-ends-only (b ∷ []) e = no _ _ _ (sym (lone-byte b) ∙ e)
+piece-ends-only (b ∷ c ∷ s) e = no _ _ _ (sym (beyond-piece b c s) ∙ e)
+
+-- "10 comes last": the dossier's own number counts before the buffer's
+pub buffer-last : (s : List ℕ) (size n : ℕ) → dossier s ≡ refused n → callNumber s size ≡ n
+unfolding callNumber
+buffer-last s size n e = rw e
+
+pub buffer-short : (s : List ℕ) (size : ℕ) {d : Dossier} {rest : List ℕ} → dossier s ≡ accepted d rest → size < 64 * d .opening .head .years + 32 → callNumber s size ≡ 10
+unfolding callNumber bufferNumber
+buffer-short s size e h = rw e (simp (lt-ltb _ _ h))
+
+pub buffer-enough : (s : List ℕ) (size : ℕ) {d : Dossier} {rest : List ℕ} → dossier s ≡ accepted d rest → 64 * d .opening .head .years + 32 ≤ size → callNumber s size ≡ 0
+unfolding callNumber bufferNumber
+buffer-enough s size e h = rw e (simp (le-ltb _ _ h))

@@ -1,0 +1,130 @@
+-- The run of activity records: the equation that defines it, and what it accepts.
+-- Assumes nothing.
+use Prim.Native.Nat.{ℕ, zero, suc, _+_, _-_, _<_, _≤_}
+use mathlib.Core.Path.{_≡_, refl, _∙_, ap, sym}
+use mathlib.Core.Bool.{Bool, true, false, cond}
+use mathlib.Core.List.{List, [], _∷_, _++_, map, append-assoc, append-nil}
+use native.Mathlib.Omega.{arith}
+use borrow.Author.Tests.{lt-ltb, ltb-true, ltb-false}
+use lib.Dec.{ltb}
+use lib.ListN.{length, length-append}
+use Rattle.activity.specs.declared.Activity.{Activity}
+use Rattle.activity.specs.Activity.{ActivityInRange}
+use Rattle.wire.specs.Bytes.{Bytes, joined}
+use Rattle.dossier.specs.Records.{activityBytes, All}
+use Rattle.dossier.specs.Reader.{refused, accepted, Reader, after, _>>=_, give, refuse, stands, upon}
+use Rattle.dossier.specs.JudgingRecords.{activityMark, activity}
+use Rattle.dossier.specs.Judging.{run, activities}
+use Rattle.wire.proofs.BytesLaws.{bytes-after}
+use Rattle.dossier.proofs.ReaderLaws.{no, step, was}
+use Rattle.dossier.proofs.Exact.{Exact}
+use Rattle.dossier.proofs.ExactParts.{Any}
+use Rattle.dossier.proofs.ActivityKinds.{activity-exact, begins-activity}
+
+-- the run without a count: where an activity mark stands, the 61st is 9, and another is read and the run goes on after it; elsewhere the run is over
+pub activities-are : (before : List Activity) (s : List ℕ)
+    → activities before s ≡ upon activityMark (cond (ltb (length before) 60) (activity >>= λ a. activities (before ++ (a ∷ []))) (refuse 9)) (give before) s
+activities-are before s = go (ltb (length before) 60) (ltb-true _ _) (ltb-false _ _)
+  where
+    some : length before < 60 → 60 - length before ≡ suc (59 - length before)
+    some h = omega arith
+
+    one-less : length before < 60 → (a : Activity) → 59 - length before ≡ 60 - length (before ++ (a ∷ []))
+    one-less h a = simp length-append (omega arith)
+
+    full : 60 ≤ length before → 60 - length before ≡ 0
+    full h = omega arith
+
+    go : (b : Bool) → (b ≡ true → length before < 60) → (b ≡ false → 60 ≤ length before)
+        → activities before s ≡ upon activityMark (cond b (activity >>= λ a. activities (before ++ (a ∷ []))) (refuse 9)) (give before) s
+    go true h k =
+        unfold activities run in rw (some (h refl)) (ap (λ (f : Activity → Reader (List Activity)). upon activityMark (activity >>= f) (give before) s) (λ i a. run (one-less (h refl) a i) (before ++ (a ∷ []))))
+    go false h k = unfold activities run in rw (full (k refl))
+
+pub activities-step : (before : List Activity) (s : List ℕ) {a : Activity} {u : List ℕ} → length before < 60 → stands activityMark s ≡ true → activity s ≡ accepted a u
+    → activities before s ≡ activities (before ++ (a ∷ [])) u
+unfolding upon _>>=_
+activities-step before s h m e = activities-are before s ∙ rw (m, lt-ltb _ _ h, e)
+
+-- no activity mark stands before t
+abbrev pub Over : List ℕ → Type 0
+Over t = stands activityMark t ≡ false
+
+unfoldable pub runBytes : List Activity → List ℕ
+runBytes l = joined (map activityBytes l)
+
+-- records in range are read, and the run goes on at what follows them
+pub activities-continue : (before l : List Activity) (t : List ℕ) → length before + length l ≤ 60 → All ActivityInRange l → activities before (runBytes l ++ t) ≡ activities (before ++ l) t
+unfolding runBytes joined
+activities-continue before [] t n p = rw append-nil
+activities-continue before (a ∷ l) t n p =
+    let u = runBytes l ++ t in
+    let m : length (before ++ (a ∷ [])) + length l ≤ 60 = simp length-append (omega arith) in
+    let x = activities-step before (activityBytes a ++ u) (omega arith) (begins-activity a u) (activity-exact .reads a u tt (p .0)) in
+    rw append-assoc (x ∙ activities-continue (before ++ (a ∷ [])) l t m (p .1) ∙ ap (λ (r : List Activity). activities r t) (append-assoc before (a ∷ []) l))
+
+run-reads : (k : ℕ) (before l : List Activity) (t : List ℕ) → length l ≤ k → All ActivityInRange l → Over t → run k before (runBytes l ++ t) ≡ accepted (before ++ l) t
+unfolding run runBytes joined upon give _>>=_
+run-reads zero before [] t n p o = simp (o, append-nil)
+run-reads zero before (a ∷ l) t n p o = absurd (omega arith)
+run-reads (suc k) before [] t n p o = simp (o, append-nil)
+run-reads (suc k) before (a ∷ l) t n p o =
+    rw (append-assoc, begins-activity a (runBytes l ++ t), activity-exact .reads a (runBytes l ++ t) tt (p .0))
+    (run-reads k (before ++ (a ∷ [])) l t (omega arith) (p .1) o ∙ rw append-assoc)
+
+-- l was read after before, and t follows
+record Ran (k : ℕ) (before : List Activity) (s : List ℕ) (all : List Activity) (t : List ℕ) : Type 0 where
+  more : List Activity
+  whole : all ≡ before ++ more
+  count : length more ≤ k
+  each : All ActivityInRange more
+  over : Over t
+  encoded : s ≡ runBytes more ++ t
+
+stopped : (k : ℕ) (before : List Activity) (s : List ℕ) (all : List Activity) (t : List ℕ) → Over s → accepted before s ≡ accepted all t → Ran k before s all t
+unfolding runBytes joined
+stopped k before s all t o q =
+    record { more = []; whole = sym (was q .0) ∙ sym (append-nil before); count = omega arith; each = tt; over = rw (← was q .1) o; encoded = was q .1 }
+
+one-more : (k : ℕ) (before : List Activity) (s : List ℕ) (a : Activity) (u : List ℕ) (all : List Activity) (t : List ℕ) → ActivityInRange a → s ≡ activityBytes a ++ u
+    → Ran k (before ++ (a ∷ [])) u all t → Ran (suc k) before s all t
+unfolding runBytes joined
+one-more k before s a u all t p e r = record {
+  more = a ∷ r .more;
+  whole = r .whole ∙ append-assoc before (a ∷ []) (r .more);
+  count = omega arith;
+  each = (p, r .each);
+  over = r .over;
+  encoded = e ∙ ap (λ (x : List ℕ). activityBytes a ++ x) (r .encoded) ∙ sym (append-assoc (activityBytes a) (runBytes (r .more)) t);
+}
+
+run-only : (k : ℕ) (before : List Activity) (s : List ℕ) → Bytes s → (all : List Activity) (t : List ℕ) → run k before s ≡ accepted all t → Ran k before s all t
+unfolding run upon give refuse _>>=_
+run-only zero before s bs all t q = go (stands activityMark s) refl q
+  where
+    go : (h : Bool) → stands activityMark s ≡ h → cond h (refused 9) (accepted before s) ≡ accepted all t → Ran 0 before s all t
+    go true h q = no _ _ _ q
+    go false h q = stopped 0 before s all t h q
+run-only (suc k) before s bs all t q = go (stands activityMark s) refl q (λ a u b. run-only k (before ++ (a ∷ [])) u b all t)
+  where
+    go : (h : Bool) → stands activityMark s ≡ h → cond h (after (activity s) (λ a. run k (before ++ (a ∷ [])))) (accepted before s) ≡ accepted all t
+        → ((a : Activity) (u : List ℕ) → Bytes u → run k (before ++ (a ∷ [])) u ≡ accepted all t → Ran k (before ++ (a ∷ [])) u all t) → Ran (suc k) before s all t
+    go false h q ih = stopped (suc k) before s all t h q
+    go true h q ih =
+        let f = step (activity s) (λ a. run k (before ++ (a ∷ []))) q in
+        let g = activity-exact .only s bs (omega arith) (f .0) (f .1) (f .2) in
+        one-more k before s (f .0) (f .1) all t (g .1) (g .2) (ih (f .0) (f .1) (bytes-after (activityBytes (f .0)) (f .1) (rw (g .2) at bs)) (f .3))
+
+-- a year's activity records, and no activity mark after them
+abbrev pub RunThen : List Activity → List ℕ → Type 0
+RunThen l t = (length l ≤ 60) × All ActivityInRange l × Over t
+
+pub activities-exact : Exact 0 Any (activities []) (λ l. joined (map activityBytes l)) RunThen
+unfolding activities runBytes
+activities-exact = record {
+  reads = λ l t c p. run-reads _ [] l t (omega (arith, p .0)) (p .1) (p .2);
+  only = λ s bs h l t q. let r = run-only _ [] s bs l t q in (tt, first r, r .encoded ∙ ap (λ (x : List Activity). runBytes x ++ t) (sym (r .whole)));
+}
+  where
+    first : {s : List ℕ} {l : List Activity} {t : List ℕ} → Ran (60 - 0) [] s l t → RunThen l t
+    first r = rw (r .whole) (omega arith, r .each, r .over)

@@ -1,0 +1,104 @@
+-- Document 01, "Causes and numbers": one judgement of any bytes as a dossier, as an opening piece, as a year piece. "Records are judged in
+-- order; the first fault counts."
+-- Assumes nothing.
+use Prim.Native.Nat.{ℕ, zero, suc, _+_, _-_, _*_}
+use mathlib.Core.Bool.{cond}
+use mathlib.Core.List.{List, [], _∷_, _++_}
+use lib.Dec.{ltb, eqb}
+use lib.ListN.{length}
+use Rattle.classes.specs.Calendar.{daysInYear}
+use Rattle.activity.specs.declared.Activity.{Activity}
+use Rattle.figures.specs.Year.{Year}
+use Rattle.dossier.specs.Marks.{PA, DA, YR, CP, CD, EN}
+use Rattle.dossier.specs.Records.{Opening, Due, settled, next, Dossier}
+use Rattle.dossier.specs.Reader.{Judged, refused, accepted, Reader, _>>=_, _>>_, give, refuse, mark, is, upon, begin, field, within, equal, nothing, endOfPiece}
+use Rattle.dossier.specs.JudgingRecords.{head, areas, matrixUnder, conversions, activityMark, activity}
+
+-- HD, PA, DA, and MP under Option 2
+unfoldable pub opening : Reader Opening
+opening = do
+  h ← head
+  project ← areas PA 1
+  belt ← areas DA 0
+  m ← matrixUnder (h .option)
+  give (record { head = h; projectAreas = project; beltAreas = belt; matrix = m })
+
+-- a year's activity records: those before are read already, up to `more` may follow. "61st activity record of a year": 9, which its mark alone
+-- decides, before bytes missing
+unfoldable pub run : ℕ → List Activity → Reader (List Activity)
+run zero before = upon activityMark (refuse 9) (give before)
+run (suc more) before = upon activityMark (do a ← activity; run more (before ++ (a ∷ []))) (give before)
+
+-- "0 to 60 activity records", those before among them; activities-are in proofs/RunLaws is its equation without a count
+unfoldable pub activities : List Activity → Reader (List Activity)
+activities before = run (60 - length before) before
+
+-- "none left": YR complete gives 6, whatever follows it; YR cut gives 1
+unfoldable pub noneLeft : {A : Type 0} → Reader A
+noneLeft = do
+  begin YR 4
+  refuse 6
+
+-- "year not the next, none left, or d wrong": 6; the year that is due, where one is left
+unfoldable pub yearDue : Due → Reader Year
+yearDue due = do
+  begin YR 4
+  calendarYear ← field 2
+  days ← field 2
+  equal 6 calendarYear (due .nextYear)
+  within 6 1 days (daysInYear calendarYear)
+  project ← conversions CP (due .projectTotal)
+  belt ← conversions CD (due .beltTotal)
+  records ← activities []
+  give (record { year = calendarYear; operatingDays = days; conversions = project; beltConversions = belt; activities = records })
+
+-- a year, where one is left or none
+unfoldable pub year : Due → Reader Year
+year due = cond (eqb (due .left) 0) noneLeft (yearDue due)
+
+-- "EN is due only after n years; YR stays due there and gives 6"; "mark not due here, or bytes after EN": 2
+unfoldable pub end : Reader (Unit {0})
+end = upon (is YR) noneLeft (do mark EN; nothing)
+
+-- the years: those before are read already, `more` follow, each against what is due by then; then EN
+unfoldable pub years : ℕ → Due → List Year → Reader (List Year)
+years zero due before = do
+  end
+  give before
+years (suc more) due before = do
+  y ← year due
+  years more (next due) (before ++ (y ∷ []))
+
+-- the dossier: HD to MP, then n years, then EN
+unfoldable pub dossier : Reader Dossier
+dossier = do
+  o ← opening
+  ys ← years (o .head .years) (settled o) []
+  give (record { opening = o; years = ys })
+
+-- "An opening piece ends after DA (Option 1) or MP"
+unfoldable pub openingPiece : Reader Opening
+openingPiece = do
+  o ← opening
+  endOfPiece
+  give o
+
+-- "a year piece after CD or any activity record"
+unfoldable pub yearPiece : Due → Reader Year
+yearPiece due = do
+  y ← year due
+  endOfPiece
+  give y
+
+-- "buffer under 64 × n + 32 bytes": 10
+unfoldable pub bufferNumber : ℕ → ℕ → ℕ
+bufferNumber n size = cond (ltb size (64 * n + 32)) 10 0
+
+-- "10 comes last": only where the dossier is accepted
+abbrev pub bufferLast : Judged Dossier → ℕ → ℕ
+bufferLast (refused n) size = n
+bufferLast (accepted d rest) size = bufferNumber (d .opening .head .years) size
+
+-- the number of the whole call, for its bytes and the size of its buffer: 0 where it is accepted
+unfoldable pub callNumber : List ℕ → ℕ → ℕ
+callNumber s size = bufferLast (dossier s) size

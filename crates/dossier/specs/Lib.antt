@@ -1,0 +1,6 @@
+pub mod Marks
+pub mod Records
+pub mod Reader
+pub mod JudgingRecords
+pub mod Judging
+pub mod Claims

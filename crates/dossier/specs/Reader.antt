@@ -1,0 +1,96 @@
+-- Document 01, "Causes and numbers": judging bytes from their start. A reader refuses them with a cause's number, or accepts a value and leaves
+-- the bytes that follow it.
+-- Assumes nothing.
+use Prim.Native.Nat.{ℕ, _*_}
+use mathlib.Core.Bool.{Bool, true, false, cond}
+use mathlib.Core.List.{List}
+use lib.Dec.{ltb, eqb}
+use lib.ListN.{length, take, drop}
+use Rattle.wire.specs.Bytes.{number, numbers}
+
+infixr 10 _>>=_ _>>_
+pub data Judged (A : Type 0) : Type 0 where
+  refused : ℕ → Judged A
+  accepted : A → List ℕ → Judged A
+
+-- the number of what was judged: 0 where nothing is refused
+abbrev pub numberOf : {A : Type 0} → Judged A → ℕ
+numberOf (refused n) = n
+numberOf (accepted a rest) = 0
+
+abbrev pub Reader : Type 0 → Type 0
+Reader A = List ℕ → Judged A
+
+-- "Records are judged in order; the first fault counts": what is refused stays refused with its number, what is accepted is followed by f
+abbrev pub after : {A B : Type 0} → Judged A → (A → Reader B) → Judged B
+after (refused n) f = refused n
+after (accepted a rest) f = f a rest
+
+-- one reader, then another (the line after, in a do block)
+unfoldable pub _>>=_ : {A B : Type 0} → Reader A → (A → Reader B) → Reader B
+_>>=_ r f s = after (r s) f
+
+unfoldable pub _>>_ : {A B : Type 0} → Reader A → Reader B → Reader B
+_>>_ r q s = after (r s) (λ _. q)
+
+-- this value, whatever follows
+unfoldable pub give : {A : Type 0} → A → Reader A
+give a s = accepted a s
+
+-- this number, whatever follows
+unfoldable pub refuse : {A : Type 0} → ℕ → Reader A
+refuse n s = refused n
+
+-- the mark m is due: 1 where "bytes end before or inside a mark still needed", 2 for a "mark not due here"
+unfoldable pub mark : ℕ → Reader (Unit {0})
+mark m s = cond (ltb (length s) 2) (refused 1) (cond (eqb (number (take 2 s)) m) (accepted tt (drop 2 s)) (refused 2))
+
+-- whether a mark of some kind stands here
+unfoldable pub stands : (ℕ → Bool) → List ℕ → Bool
+stands kind s = cond (ltb (length s) 2) false (kind (number (take 2 s)))
+
+-- the kind of one mark alone
+abbrev pub is : ℕ → ℕ → Bool
+is m x = eqb x m
+
+-- goes on with r if a mark of that kind stands here, with q if not
+unfoldable pub upon : {A : Type 0} → (ℕ → Bool) → Reader A → Reader A → Reader A
+upon kind r q s = cond (stands kind s) (r s) (q s)
+
+-- 1 where bytes end "inside a record": fewer than n are left
+unfoldable pub present : ℕ → Reader (Unit {0})
+present n s = cond (ltb (length s) n) (refused 1) (accepted tt s)
+
+-- a record with n bytes of fields: its mark, then bytes missing, and the fields only after these
+unfoldable pub begin : ℕ → ℕ → Reader (Unit {0})
+begin m n = do
+  mark m
+  present n
+
+-- a field of w bytes
+unfoldable pub field : ℕ → Reader ℕ
+field w s = accepted (number (take w s)) (drop w s)
+
+-- k fields of w bytes each
+unfoldable pub fields : ℕ → ℕ → Reader (List ℕ)
+fields k w s = accepted (numbers k w s) (drop (k * w) s)
+
+-- whether x is below the range or above it
+unfoldable pub outside : ℕ → ℕ → ℕ → Bool
+outside low x high = cond (ltb x low) true (ltb high x)
+
+-- the cause n where x is out of range
+unfoldable pub within : ℕ → ℕ → ℕ → ℕ → Reader (Unit {0})
+within n low x high s = cond (outside low x high) (refused n) (accepted tt s)
+
+-- the cause n unless x and y are equal
+unfoldable pub equal : ℕ → ℕ → ℕ → Reader (Unit {0})
+equal n x y s = cond (eqb x y) (accepted tt s) (refused n)
+
+-- "nothing after it": any byte more is 2
+unfoldable pub nothing : Reader (Unit {0})
+nothing s = cond (ltb 0 (length s)) (refused 2) (accepted tt s)
+
+-- the end of a piece: "a lone byte left over there is 1, any mark beyond the piece 2"
+unfoldable pub endOfPiece : Reader (Unit {0})
+endOfPiece s = cond (eqb (length s) 1) (refused 1) (nothing s)

@@ -1,0 +1,78 @@
+-- Two's complement: what it is below 0 and from 0 on, and that the bytes of a figure say the figure.
+-- Assumes nothing.
+use Prim.Native.Nat.{ℕ, zero, suc, _+_, _-_, _*_, _^_, _≤_, _<_}
+use mathlib.Core.Path.{_≡_, refl, _∙_, ap, sym}
+use mathlib.Core.List.{List, [], _∷_, _++_, append-assoc, append-nil}
+use native.Mathlib.Omega.{arith}
+use lib.IntN.{ℤ, pos, negsuc}
+use lib.Signed.{mag}
+use lib.ListN.{length, take, drop, length-append, length-drop}
+use lib.Seq.{sets, sets-eq, take-at, drop-at, take-append-le, drop-append-le, drop-append-add, drop-drop}
+use borrow.Author.Tests.{lt-ltb, le-ltb}
+use Rattle.wire.specs.Bytes.{bytes, number, fieldAt}
+use Rattle.wire.specs.Signed.{twosComplement, figureBytes, figuresBytes, written, signed, figureAt}
+use Rattle.wire.proofs.BytesLaws.{length-bytes, number-bytes, take-bytes}
+
+pub twos-below : (z : ℤ) (n : ℕ) → z ≡ negsuc n → 18446744073709551615 - n ≡ twosComplement z
+unfolding twosComplement
+twos-below z n e = rw e (omega arith)
+
+pub twos-above : (z : ℤ) (n : ℕ) → z ≡ pos n → n ≡ twosComplement z
+unfolding twosComplement
+twos-above z n e = rw e refl
+
+twos-lt : (z : ℤ) → mag z < 2 ^ 63 → twosComplement z < 256 ^ 8
+unfolding twosComplement
+twos-lt (pos n) h = omega arith
+twos-lt (negsuc n) h = omega arith
+
+signed-twos : (z : ℤ) → mag z < 2 ^ 63 → signed (twosComplement z) ≡ z
+unfolding twosComplement signed
+signed-twos (pos n) h = rw (lt-ltb n (2 ^ 63) h)
+signed-twos (negsuc n) h = rw (le-ltb (2 ^ 64 - (n + 1)) (2 ^ 63) (omega arith)) (ap negsuc (omega arith))
+
+pub length-figure : (z : ℤ) → length (figureBytes z) ≡ 8
+unfolding figureBytes
+length-figure z = length-bytes 8 (twosComplement z)
+
+pub length-figures : (figures : List ℤ) → length (figuresBytes figures) ≡ 8 * length figures
+unfolding figuresBytes
+length-figures [] = refl
+length-figures (z ∷ rest) = length-append (figureBytes z) (figuresBytes rest) ∙ omega (arith, length-figure z, length-figures rest)
+
+-- the figure after the bytes s is read back
+pub figure-back : (s t : List ℕ) (z : ℤ) (at : ℕ) → length s ≡ at → mag z < 2 ^ 63 → figureAt (s ++ (figureBytes z ++ t)) at ≡ z
+unfolding figureAt fieldAt figureBytes
+figure-back s t z at e h = rw (drop-at s (bytes 8 (twosComplement z) ++ t) at e, take-bytes 8 (twosComplement z) t (twos-lt z h)) (signed-twos z h)
+
+figures-append : (xs ys : List ℤ) → figuresBytes (xs ++ ys) ≡ figuresBytes xs ++ figuresBytes ys
+unfolding figuresBytes
+figures-append [] ys = refl
+figures-append (x ∷ xs) ys = rw (figures-append xs ys) (sym (append-assoc (figureBytes x) (figuresBytes xs) (figuresBytes ys)))
+
+-- the figure z that stands after the figures xs in a buffer
+pub written-figure : (xs : List ℤ) (z : ℤ) (ys : List ℤ) (buffer : List ℕ) (at : ℕ) → 8 * length xs ≡ at → mag z < 2 ^ 63 → figureAt (written (xs ++ (z ∷ ys)) buffer) at ≡ z
+unfolding written figuresBytes
+written-figure xs z ys buffer at e h =
+    let rest = drop (8 * length (xs ++ (z ∷ ys))) buffer in
+    rw (figures-append xs (z ∷ ys), append-assoc (figuresBytes xs) (figureBytes z ++ figuresBytes ys) rest, append-assoc (figureBytes z) (figuresBytes ys) rest)
+    (figure-back (figuresBytes xs) (figuresBytes ys ++ rest) z at (length-figures xs ∙ e) h)
+
+-- one figure more is written right after the others
+pub written-next : (xs : List ℤ) (z : ℤ) (buffer : List ℕ) (at : ℕ) → 8 * length xs ≡ at → at + 8 ≤ length buffer
+    → sets (written xs buffer) at (figureBytes z) ≡ written (xs ++ (z ∷ [])) buffer
+unfolding written figuresBytes
+written-next xs z buffer at e h =
+    let s = figuresBytes xs in
+    let t = drop (8 * length xs) buffer in
+    let l : length s ≡ at = length-figures xs ∙ e in
+    let n : at + length (figureBytes z) ≤ length (s ++ t) = omega (arith, length-figure z, length-append s t, length-drop (8 * length xs) buffer) in
+    let k : 8 * length (xs ++ (z ∷ [])) ≡ 8 * length xs + 8 = ap (λ (n : ℕ). 8 * n) (length-append xs (z ∷ [])) ∙ omega arith in
+    let d : drop (at + length (figureBytes z)) (s ++ t) ≡ drop 8 t = rw (← l, length-figure z) (drop-append-add s t 8) in
+    sets-eq (figureBytes z) (s ++ t) at n
+    ∙ rw (take-at s t at l, d, drop-drop, figures-append xs (z ∷ []), append-nil (figureBytes z), k) (rw append-assoc)
+
+-- nothing is written yet
+pub written-none : (buffer : List ℕ) → written [] buffer ≡ buffer
+unfolding written figuresBytes
+written-none buffer = refl
