@@ -1,19 +1,16 @@
 -- The mathematics of demand 3: for every list of accepted years from an opening on.
 -- Assumes nothing.
-use mathlib.Core.Bool.{Bool, true, false, cond, _||_}
 use mathlib.Core.List.{List}
 use Prim.Native.Nat.{ℕ, _+_, _-_, _*_, _≤_, _<_}
 use native.Mathlib.Nat.{zero-add}
 use native.Mathlib.Omega.{arith}
-use lib.Dec.{eqb}
 use lib.ListN.{getD, length}
 use lib.IntN.{pos}
 use Rattle.arithmetic.specs.Fraction.{_<ᶠ_, whole, _-ᶠ_, _×ᶠ_}
-use Rattle.arithmetic.proofs.TableLaws.{atMost, entry-le}
 use Rattle.arithmetic.proofs.NearLaws.{near-≤ᶠ, near-gap}
 use Rattle.classes.specs.declared.AreaUnits.{AreaUnits}
-use Rattle.classes.specs.Classes.{TP, PP, carbonStocks, emissionFactor}
 use Rattle.classes.specs.Matrix.{RowsSum}
+use Rattle.classes.proofs.FactorLaws.{factor-le}
 use Rattle.projection.specs.Projection.{areaTotal}
 use Rattle.figures.specs.Year.{Terms, Year}
 use Rattle.figures.specs.Reckoning.{Reckoning, opened, afterYears, DaysAllowed, recordCount}
@@ -21,19 +18,6 @@ use Rattle.assurance.specs.Unrounded.{Unrounded, openedᶠ, afterYears�
 use Rattle.assurance.specs.Assurance.{Assured}
 use Rattle.assurance.proofs.RegionLaws.{follows-assured}
 use Rattle.assurance.proofs.YearLaws.{Reckoned, opened-reckoned, years-reckoned}
-
--- no factor is above the greatest stock
-pub factor-le : (stocks : List ℕ) (S : ℕ) → ((i : ℕ) → getD stocks i 0 ≤ S) → (i j : ℕ) → emissionFactor stocks i j ≤ S
-unfolding emissionFactor
-factor-le stocks S h i j = go (eqb j TP || eqb j PP)
-  where
-    go : (b : Bool) → cond b 0 (getD stocks i 0 - getD stocks j 0) ≤ S
-    go true = omega arith
-    go false = omega (arith, h i)
-
-pub built-in-le : (i : ℕ) → getD carbonStocks i 0 ≤ 13511
-unfolding carbonStocks atMost
-built-in-le = entry-le 13511 carbonStocks tt
 
 -- the bound of any stock list whose greatest stock is S: 500 × gap < 1,936 × S × n × (n + 1) + 2,100 × n + 400 × m
 pub stock-gap : (S n m projectStart beltStart : ℕ) (r : Reckoning) (u : Unrounded) → Reckoned S n m projectStart beltStart r u → 0 < n

@@ -1,3 +1,4 @@
 pub mod Tests
 pub mod MatrixLaws
 pub mod CalendarLaws
+pub mod FactorLaws

@@ -11,7 +11,7 @@ use lib.ListN.{length, take, drop, length-drop}
 use lib.Seq.{drop-drop}
 use borrow.Author.Tests.{lt-ltb, le-ltb, eq-eqb, ne-eqb}
 use Rattle.wire.specs.Bytes.{number, numbers, fieldAt}
-use Rattle.dossier.specs.Reader.{Judged, refused, accepted, Reader, after, _>>=_, _>>_, give, refuse, mark, stands, upon, present, begin, field, fields, outside, within, equal}
+use Rattle.dossier.specs.Reader.{Judged, refused, accepted, Reader, after, _>>=_, _>>_, give, refuse, mark, stands, upon, present, begin, field, fields, outside, within, equal, nothing, endOfPiece}
 use Rattle.cursor.specs.Answers.{begunSays}
 
 -- ---- the four ways in which a record begins
@@ -102,3 +102,25 @@ stands-short kind s at h = let k : length (drop at s) < 2 = rw length-drop h in 
 pub stands-here : (kind : ℕ → Bool) (s : List ℕ) (at x : ℕ) → 2 ≤ length s - at → x ≡ fieldAt 2 s at → stands kind (drop at s) ≡ kind x
 unfolding stands fieldAt
 stands-here kind s at x h e = let k : 2 ≤ length (drop at s) = rw length-drop h in simp (le-ltb _ _ k, ← e)
+
+-- ---- the end of a piece that says a, by the bytes left from a place
+module _ {A : Type 0} (a : A) (s : List ℕ) (at : ℕ) where
+  pub end-lone : length s - at ≡ 1 → refused 1 ≡ (endOfPiece >> give a) (drop at s)
+  unfolding endOfPiece _>>_
+  end-lone h = let k : length (drop at s) ≡ 1 = length-drop at s ∙ h in simp (eq-eqb _ _ k)
+
+  pub end-beyond : (length s - at ≡ 1 → ⊥) → 0 < length s - at → refused 2 ≡ (endOfPiece >> give a) (drop at s)
+  unfolding endOfPiece nothing _>>_
+  end-beyond f h =
+      let l = length-drop at s in
+      let k : length (drop at s) ≡ 1 → ⊥ = λ e. f (sym l ∙ e) in
+      let j : 0 < length (drop at s) = omega arith in
+      simp (ne-eqb _ _ k, lt-ltb _ _ j)
+
+  pub end-here : length s - at ≤ 0 → accepted a (drop at s) ≡ (endOfPiece >> give a) (drop at s)
+  unfolding endOfPiece nothing give _>>_
+  end-here h =
+      let l = length-drop at s in
+      let k : length (drop at s) ≡ 1 → ⊥ = λ e. omega arith in
+      let j : length (drop at s) ≤ 0 = omega arith in
+      simp (ne-eqb _ _ k, le-ltb _ _ j)

@@ -1,20 +1,15 @@
 -- `cursor::outside` meets its contract: its tests are those of the definition.
 -- Assumes nothing.
 use borrow.Author.Tests.{lt-ltb, le-ltb}
-use Rattle.dossier.specs.Reader.{outside}
-use native.Mathlib.Omega.{arith}
 use borrow.Author.Needs.{needs}
+use Rattle.dossier.specs.Reader.{outside}
 use Rattle.cursor.proofs.outside.Statement.{statement}
 use Rattle.cursor.proofs.outside.Tie as tie
-use Rattle.cursor.proofs.outside.Reads as reads
-use Rattle.cursor.proofs.outside.Lts as lts
 
--- src/lib.rt:32:9
 returns : tie.Need-returns
 unfolding outside
 returns c = search (needs, lt-ltb, le-ltb)
 
--- src/lib.rt:28:1
 returns-2 : tie.Need-returns-2
 unfolding outside
 returns-2 c = search (needs, lt-ltb, le-ltb)

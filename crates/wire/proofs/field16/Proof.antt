@@ -1,36 +1,27 @@
 -- `wire::field16` meets its contract: it is its two halves joined.
 -- Assumes nothing.
 use mathlib.Core.Path.{sym}
-use Rattle.wire.proofs.FieldLaws.{field-joined}
 use native.Mathlib.Omega.{arith}
 use borrow.Author.Needs.{needs}
+use Rattle.wire.proofs.FieldLaws.{field-joined}
 use Rattle.wire.proofs.field16.Statement.{statement}
 use Rattle.wire.proofs.field16.Tie as tie
-use Rattle.wire.proofs.field16.Reads as reads
-use Rattle.wire.proofs.field16.Lts as lts
-use Rattle.wire.proofs.field8.Reads as field8-reads
 
--- src/lib.rt:28:5
 field8-requires : tie.Need-field8-requires
 field8-requires c κs = search needs
 
--- src/lib.rt:28:5
 mul-result : tie.Need-mul-result
 mul-result c = search needs
 
--- src/lib.rt:28:37
 add-field8 : tie.Need-add-field8
 add-field8 c = search needs
 
--- src/lib.rt:28:27
 field8-requires-2 : tie.Need-field8-requires-2
 field8-requires-2 c κs = search needs
 
--- src/lib.rt:28:5
 add-result : tie.Need-add-result
 add-result c = search needs
 
--- src/lib.rt:24:1
 returns : tie.Need-returns
 returns c = (rw (c .before .field8 .ensures .0, c .field82 .ensures .0) (sym (field-joined 1 1 (c .before .before .before .args .s .now) (c .before .before .before .args .at) (omega arith))), omega arith)
 

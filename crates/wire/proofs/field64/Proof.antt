@@ -1,36 +1,27 @@
 -- `wire::field64` meets its contract: it is its two halves joined.
 -- Assumes nothing.
 use mathlib.Core.Path.{sym}
-use Rattle.wire.proofs.FieldLaws.{field-joined}
 use native.Mathlib.Omega.{arith}
 use borrow.Author.Needs.{needs}
+use Rattle.wire.proofs.FieldLaws.{field-joined}
 use Rattle.wire.proofs.field64.Statement.{statement}
 use Rattle.wire.proofs.field64.Tie as tie
-use Rattle.wire.proofs.field64.Reads as reads
-use Rattle.wire.proofs.field64.Lts as lts
-use Rattle.wire.proofs.field32.Reads as field32-reads
 
--- src/lib.rt:42:5
 field32-requires : tie.Need-field32-requires
 field32-requires c κs = search needs
 
--- src/lib.rt:42:5
 mul-result : tie.Need-mul-result
 mul-result c = search needs
 
--- src/lib.rt:42:46
 add-field32 : tie.Need-add-field32
 add-field32 c = search needs
 
--- src/lib.rt:42:35
 field32-requires-2 : tie.Need-field32-requires-2
 field32-requires-2 c κs = search needs
 
--- src/lib.rt:42:5
 add-result : tie.Need-add-result
 add-result c = search needs
 
--- src/lib.rt:38:1
 returns : tie.Need-returns
 returns c = rw (c .before .field32 .ensures .0, c .field322 .ensures .0) (sym (field-joined 4 4 (c .before .before .before .args .s .now) (c .before .before .before .args .at) (omega arith)))
 

@@ -2,112 +2,85 @@
 -- Assumes nothing.
 use native.Mathlib.Nat.{div-one}
 use native.Mathlib.Numerals.{towards-suc}
-use lib.ListN.{length-set}
-use Rattle.wire.specs.Bytes.{bytes}
 use native.Mathlib.Omega.{arith}
+use lib.ListN.{length-set}
 use borrow.Author.Needs.{needs}
+use Rattle.wire.specs.Bytes.{bytes}
 use Rattle.wire.proofs.put64.Statement.{statement}
 use Rattle.wire.proofs.put64.Tie as tie
-use Rattle.wire.proofs.put64.Reads as reads
-use Rattle.wire.proofs.put64.Lts as lts
 
--- src/lib.rt:61:18
 cast-buffer : tie.Need-cast-buffer
 cast-buffer c = search needs
 
--- src/lib.rt:61:5
 slice-write-buffer : tie.Need-slice-write-buffer
 slice-write-buffer c = search needs
 
--- src/lib.rt:62:22
 cast-buffer-2 : tie.Need-cast-buffer-2
 cast-buffer-2 c = search needs
 
--- src/lib.rt:62:12
 add-buffer : tie.Need-add-buffer
 add-buffer c = search needs
 
--- src/lib.rt:62:5
 slice-write-buffer-2 : tie.Need-slice-write-buffer-2
 slice-write-buffer-2 c = simp length-set (omega arith)
 
--- src/lib.rt:63:22
 cast-buffer-3 : tie.Need-cast-buffer-3
 cast-buffer-3 c = search needs
 
--- src/lib.rt:63:12
 add-buffer-2 : tie.Need-add-buffer-2
 add-buffer-2 c = search needs
 
--- src/lib.rt:63:5
 slice-write-buffer-3 : tie.Need-slice-write-buffer-3
 slice-write-buffer-3 c = simp length-set (omega arith)
 
--- src/lib.rt:64:22
 cast-buffer-4 : tie.Need-cast-buffer-4
 cast-buffer-4 c = search needs
 
--- src/lib.rt:64:12
 add-buffer-3 : tie.Need-add-buffer-3
 add-buffer-3 c = search needs
 
--- src/lib.rt:64:5
 slice-write-buffer-4 : tie.Need-slice-write-buffer-4
 slice-write-buffer-4 c = simp length-set (omega arith)
 
--- src/lib.rt:65:22
 cast-buffer-5 : tie.Need-cast-buffer-5
 cast-buffer-5 c = search needs
 
--- src/lib.rt:65:12
 add-buffer-4 : tie.Need-add-buffer-4
 add-buffer-4 c = search needs
 
--- src/lib.rt:65:5
 slice-write-buffer-5 : tie.Need-slice-write-buffer-5
 slice-write-buffer-5 c = simp length-set (omega arith)
 
--- src/lib.rt:66:22
 cast-buffer-6 : tie.Need-cast-buffer-6
 cast-buffer-6 c = search needs
 
--- src/lib.rt:66:12
 add-buffer-5 : tie.Need-add-buffer-5
 add-buffer-5 c = search needs
 
--- src/lib.rt:66:5
 slice-write-buffer-6 : tie.Need-slice-write-buffer-6
 slice-write-buffer-6 c = simp length-set (omega arith)
 
--- src/lib.rt:67:22
 cast-buffer-7 : tie.Need-cast-buffer-7
 cast-buffer-7 c = search needs
 
--- src/lib.rt:67:12
 add-buffer-6 : tie.Need-add-buffer-6
 add-buffer-6 c = search needs
 
--- src/lib.rt:67:5
 slice-write-buffer-7 : tie.Need-slice-write-buffer-7
 slice-write-buffer-7 c = simp length-set (omega arith)
 
--- src/lib.rt:68:22
 cast-buffer-8 : tie.Need-cast-buffer-8
 cast-buffer-8 c = search needs
 
--- src/lib.rt:68:12
 add-buffer-7 : tie.Need-add-buffer-7
 add-buffer-7 c = search needs
 
--- src/lib.rt:68:5
 slice-write-buffer-8 : tie.Need-slice-write-buffer-8
 slice-write-buffer-8 c = simp length-set (omega arith)
 
--- src/lib.rt:57:1
 same-length : tie.Need-same-length
 same-length c = simp length-set
 
--- src/lib.rt:57:1
 returns : tie.Need-returns
 unfolding bytes
 returns c = simp (towards-suc, div-one)

@@ -2,35 +2,27 @@
 -- Assumes nothing.
 use mathlib.Core.Path.{_≡_, _∙_, ap, sym}
 use lib.Signed.{mag}
+use lib.IntN.{pos, negsuc}
 use mir.Facts.{toZ-ofZ}
+use borrow.Author.Needs.{needs}
 use Rattle.arithmetic.proofs.SignedLaws.{below-zero, from-zero}
 use Rattle.wire.proofs.SignedLaws.{twos-below, twos-above}
-use lib.IntN.{pos, negsuc}
-use native.Mathlib.Omega.{arith}
-use borrow.Author.Needs.{needs}
 use Rattle.wire.proofs.twos_complement.Statement.{statement}
 use Rattle.wire.proofs.twos_complement.Tie as tie
-use Rattle.wire.proofs.twos_complement.Reads as reads
-use Rattle.wire.proofs.twos_complement.Lts as lts
-use Rattle.arithmetic.proofs.magnitude.Reads as magnitude-reads
 
 -- the magnitude of v as it is read back
 size : (c : tie.After-magnitude) → c .magnitude .result ≡ mag (c .before .args .v)
 size c = c .magnitude .ensures ∙ ap mag (toZ-ofZ (c .before .fits .v))
 
--- src/lib.rt:49:9
 magnitude-requires : tie.Need-magnitude-requires
 magnitude-requires c κs = search needs
 
--- src/lib.rt:50:16
 sub-result : tie.Need-sub-result
 sub-result c = search needs
 
--- src/lib.rt:46:1
 returns : tie.Need-returns
 returns c = twos-below _ _ (below-zero (c .before .before .fits .v) (c .if1 .taken) ∙ ap negsuc (sym (size (c .before))))
 
--- src/lib.rt:46:1
 returns-2 : tie.Need-returns-2
 returns-2 c = twos-above _ _ (from-zero (c .before .before .fits .v) (c .if1 .left) ∙ ap pos (sym (size (c .before))))
 

@@ -1,0 +1,3 @@
+pub mod RecordLaws
+pub mod MarkLaws
+pub mod RunLaws

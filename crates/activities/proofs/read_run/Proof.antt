@@ -1,0 +1,74 @@
+-- `activities::read_run` meets its contract: its loop keeps the records read so far, and each way out answers for them.
+-- Assumes nothing.
+use Prim.Native.Nat.{_-_}
+use native.Mathlib.Omega.{arith}
+use borrow.Author.Needs.{needs}
+use Rattle.activities.proofs.MarkLaws.{two-left}
+use Rattle.activities.proofs.RunLaws.{SoFar, none-yet, small-sum, read-range, sum-fits, over, full, faulty, one-more}
+use Rattle.activities.proofs.read_run.Statement.{statement}
+use Rattle.activities.proofs.read_run.Tie as tie
+
+abbrev Inv-loop : tie.InvT-loop
+Inv-loop s start at₀ grams₀ count₀ at grams count = SoFar s start at grams count
+
+abbrev μ-loop : tie.MeasureT-loop
+μ-loop s start at₀ grams₀ count₀ at grams count = 60 - count
+
+loop-holds : tie.Need-loop-holds Inv-loop μ-loop
+loop-holds c = search (needs, none-yet)
+
+due-requires : tie.Need-due-requires Inv-loop μ-loop
+due-requires c κs = search needs
+
+returns : tie.Need-returns Inv-loop μ-loop
+returns c = (search (needs, full), tt)
+
+read-activity-requires : tie.Need-read-activity-requires Inv-loop μ-loop
+read-activity-requires c κs = search (needs, two-left)
+
+enum-known-activity : tie.Need-enum-known-activity Inv-loop μ-loop
+enum-known-activity c = search needs
+
+emissions-requires : tie.Need-emissions-requires Inv-loop μ-loop
+emissions-requires c κs = search (needs, read-range)
+
+plus-requires : tie.Need-plus-requires Inv-loop μ-loop
+plus-requires c κs = search (needs, sum-fits)
+
+enum-known-n : tie.Need-enum-known-n Inv-loop μ-loop
+enum-known-n c = search needs
+
+returns-2 : tie.Need-returns-2 Inv-loop μ-loop
+returns-2 c = (search (needs, faulty), tt)
+
+add-count : tie.Need-add-count Inv-loop μ-loop
+add-count c = omega arith
+
+loop-less : tie.Need-loop-less Inv-loop μ-loop
+loop-less c = omega arith
+
+loop-again : tie.Need-loop-again Inv-loop μ-loop
+loop-again c = search (needs, one-more)
+
+returns-3 : tie.Need-returns-3 Inv-loop μ-loop
+returns-3 c = (search (needs, over), (search needs, search (needs, small-sum)))
+
+pub read-run-spec : {M : Type 1} → statement M
+read-run-spec =
+    tie.close
+    (tie.spec
+    Inv-loop
+    μ-loop
+    loop-holds
+    due-requires
+    returns
+    read-activity-requires
+    enum-known-activity
+    emissions-requires
+    plus-requires
+    enum-known-n
+    returns-2
+    add-count
+    loop-less
+    loop-again
+    returns-3)

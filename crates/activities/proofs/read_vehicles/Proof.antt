@@ -1,0 +1,124 @@
+-- `activities::read_vehicles` meets its contract: it tests what the definition tests, in its order; factors in range have a product that fits.
+-- Assumes nothing.
+use Prim.Native.Nat.{_≤_}
+use native.Mathlib.Nat.{mul-le-mul}
+use native.Mathlib.Omega.{arith}
+use borrow.Author.Needs.{needs}
+use Rattle.activities.proofs.RecordLaws.{judging}
+use Rattle.dossier.specs.JudgingRecords.{vehicles}
+use Rattle.activities.proofs.read_vehicles.Statement.{statement}
+use Rattle.activities.proofs.read_vehicles.Tie as tie
+
+-- count, average and rate, once tested
+factors : (c : tie.Else5) → let r = c .before .before .before .before .before .before .before .before in
+    (r .before .before .field32 .result ≤ 1000) × (r .before .field322 .result ≤ 1000000) × (r .field323 .result ≤ 100000)
+factors c = (search judging, search judging, search judging)
+
+begun-requires : tie.Need-begun-requires
+begun-requires c κs = search needs
+
+returns : tie.Need-returns
+unfolding vehicles
+returns c = (search judging, tt)
+
+add-field8 : tie.Need-add-field8
+add-field8 c = search needs
+
+field8-requires : tie.Need-field8-requires
+field8-requires c κs = search needs
+
+add-field32 : tie.Need-add-field32
+add-field32 c = search needs
+
+field32-requires : tie.Need-field32-requires
+field32-requires c κs = search needs
+
+add-field32-2 : tie.Need-add-field32-2
+add-field32-2 c = search needs
+
+field32-requires-2 : tie.Need-field32-requires-2
+field32-requires-2 c κs = search needs
+
+add-field32-3 : tie.Need-add-field32-3
+add-field32-3 c = search needs
+
+field32-requires-3 : tie.Need-field32-requires-3
+field32-requires-3 c κs = search needs
+
+outside-requires : tie.Need-outside-requires
+outside-requires c κs = search needs
+
+returns-2 : tie.Need-returns-2
+unfolding vehicles
+returns-2 c = (search judging depth 12, tt)
+
+outside-requires-2 : tie.Need-outside-requires-2
+outside-requires-2 c κs = search needs
+
+returns-3 : tie.Need-returns-3
+unfolding vehicles
+returns-3 c = (search judging depth 12, tt)
+
+outside-requires-3 : tie.Need-outside-requires-3
+outside-requires-3 c κs = search needs
+
+returns-4 : tie.Need-returns-4
+unfolding vehicles
+returns-4 c = (search judging depth 12, tt)
+
+outside-requires-4 : tie.Need-outside-requires-4
+outside-requires-4 c κs = search needs
+
+returns-5 : tie.Need-returns-5
+unfolding vehicles
+returns-5 c = (search judging depth 12, tt)
+
+mul-outside : tie.Need-mul-outside
+mul-outside c = let f = factors c in omega (arith, mul-le-mul (f .0) (f .1))
+
+mul-outside-2 : tie.Need-mul-outside-2
+mul-outside-2 c = let f = factors c in omega (arith, mul-le-mul (mul-le-mul (f .0) (f .1)) (f .2))
+
+outside-requires-5 : tie.Need-outside-requires-5
+outside-requires-5 c κs = search needs
+
+returns-6 : tie.Need-returns-6
+unfolding vehicles
+returns-6 c = (search judging depth 12, tt)
+
+add-t9 : tie.Need-add-t9
+add-t9 c = search needs
+
+returns-7 : tie.Need-returns-7
+unfolding vehicles
+returns-7 c = let f = factors (c .before .before) in
+    (search judging depth 12, (omega arith, record { kinds = search judging; counted = f .0; used = f .1; rated = f .2; product = search judging }))
+
+pub read-vehicles-spec : {M : Type 1} → statement M
+read-vehicles-spec =
+    tie.close
+    (tie.spec
+    begun-requires
+    returns
+    add-field8
+    field8-requires
+    add-field32
+    field32-requires
+    add-field32-2
+    field32-requires-2
+    add-field32-3
+    field32-requires-3
+    outside-requires
+    returns-2
+    outside-requires-2
+    returns-3
+    outside-requires-3
+    returns-4
+    outside-requires-4
+    returns-5
+    mul-outside
+    mul-outside-2
+    outside-requires-5
+    returns-6
+    add-t9
+    returns-7)

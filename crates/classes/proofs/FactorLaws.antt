@@ -1,0 +1,34 @@
+-- No emission factor is above the greatest stock.
+-- Assumes nothing.
+use mathlib.Core.Path.{_≡_, refl}
+use mathlib.Core.Bool.{Bool, true, false, cond, _||_}
+use mathlib.Core.List.{List}
+use Prim.Native.Nat.{ℕ, _-_, _/_, _%_, _≤_, _<_}
+use native.Mathlib.Omega.{arith}
+use lib.Dec.{eqb, ltb}
+use lib.ListN.{getD, length, List·getD-eq-default}
+use borrow.Author.Tests.{ltb-true, ltb-false}
+use Rattle.arithmetic.proofs.SumLaws.{length-listed, getD-listed}
+use Rattle.arithmetic.proofs.TableLaws.{atMost, entry-le}
+use Rattle.classes.specs.Classes.{TP, PP, carbonStocks, emissionFactor}
+use Rattle.classes.specs.Matrix.{tableOf}
+
+pub factor-le : (stocks : List ℕ) (S : ℕ) → ((i : ℕ) → getD stocks i 0 ≤ S) → (i j : ℕ) → emissionFactor stocks i j ≤ S
+unfolding emissionFactor
+factor-le stocks S h i j = go (eqb j TP || eqb j PP)
+  where
+    go : (b : Bool) → cond b 0 (getD stocks i 0 - getD stocks j 0) ≤ S
+    go true = omega arith
+    go false = omega (arith, h i)
+
+pub built-in-le : (i : ℕ) → getD carbonStocks i 0 ≤ 13511
+unfolding carbonStocks atMost
+built-in-le = entry-le 13511 carbonStocks tt
+
+-- no entry of a table of f is above a bound of f
+pub table-le : (f : ℕ → ℕ → ℕ) (g : ℕ) → ((i j : ℕ) → f i j ≤ g) → (k : ℕ) → getD (tableOf f) k 0 ≤ g
+table-le f g h k = go (ltb k 144) refl
+  where
+    go : (b : Bool) → ltb k 144 ≡ b → getD (tableOf f) k 0 ≤ g
+    go true e = rw (getD-listed 144 (λ k. f (k / 12) (k % 12)) k 0 (ltb-true k 144 e)) (h (k / 12) (k % 12))
+    go false e = rw (List·getD-eq-default (tableOf f) 0 {n = k} (rw (length-listed 144 (λ k. f (k / 12) (k % 12))) (ltb-false k 144 e))) (omega arith)

@@ -1,0 +1,5 @@
+pub mod NumbersLaws
+pub mod HeadLaws
+pub mod AreasLaws
+pub mod MatrixLaws
+pub mod OpeningLaws

@@ -1,0 +1,144 @@
+-- `opening::read_areas` meets its contract: after i turns the first i areas are stored and the sum is theirs, and a sum once above 10^12 stays above it.
+-- Assumes nothing.
+use mathlib.Core.Path.{_≡_, refl, _∙_, sym}
+use Prim.Native.Nat.{suc, _≤_, _-_, _+_}
+use native.Mathlib.Numerals.{add-one}
+use native.Mathlib.Omega.{arith}
+use lib.ListN.{length, take, drop, length-set}
+use lib.Seq.{take-all}
+use borrow.Author.Needs.{needs}
+use Rattle.wire.specs.Bytes.{numbers, total}
+use Rattle.opening.specs.Answers.{amounts}
+use Rattle.opening.proofs.NumbersLaws.{next-number}
+use Rattle.opening.proofs.AreasLaws.{areas-refused, amounts-next, areas-no, areas-above, areas-below, areas-read}
+use Rattle.opening.proofs.read_areas.Statement.{statement}
+use Rattle.opening.proofs.read_areas.Tie as tie
+
+abbrev Inv-loop : tie.InvT-loop
+Inv-loop s at m least fault areas₀ sum₀ i₀ areas sum i = (i ≤ 12) × (length areas ≡ 12) × (amounts (take i areas) ≡ numbers i 8 (drop (at + 2) s)) × (sum ≡ total (numbers i 8 (drop (at + 2) s))) × (sum ≤ 1000000000000)
+
+abbrev μ-loop : tie.MeasureT-loop
+μ-loop s at m least fault areas₀ sum₀ i₀ areas sum i = 12 - i
+
+done : (c : tie.After-loop Inv-loop μ-loop) → c .before .loop .i ≡ 12
+done c = omega arith
+
+begun-requires : tie.Need-begun-requires Inv-loop μ-loop
+begun-requires c κs = search needs
+
+no-areas-requires : tie.Need-no-areas-requires Inv-loop μ-loop
+no-areas-requires c κs = search needs
+
+returns : tie.Need-returns Inv-loop μ-loop
+returns c =
+    let a = c .before .before .before .before .args in
+    areas-refused _ _ _ _ (c .no-areas .ensures) (areas-no (a .s .now) (a .at) _ _ _ (c .before .before .begun .ensures .0) (c .before .if1 .taken))
+
+loop-holds : tie.Need-loop-holds Inv-loop μ-loop
+unfolding numbers total
+loop-holds c = (omega arith, refl, refl, refl, omega arith)
+
+add-field64 : tie.Need-add-field64 Inv-loop μ-loop
+add-field64 c = search needs
+
+mul-field64 : tie.Need-mul-field64 Inv-loop μ-loop
+mul-field64 c = search needs
+
+add-field64-2 : tie.Need-add-field64-2 Inv-loop μ-loop
+add-field64-2 c = search needs
+
+field64-requires : tie.Need-field64-requires Inv-loop μ-loop
+field64-requires c κs = search needs
+
+sub-if2 : tie.Need-sub-if2 Inv-loop μ-loop
+sub-if2 c = search needs
+
+no-areas-requires-2 : tie.Need-no-areas-requires-2 Inv-loop μ-loop
+no-areas-requires-2 c κs = search needs
+
+returns-2 : tie.Need-returns-2 Inv-loop μ-loop
+returns-2 c =
+    let n = c .before .before in
+    let l = n .before .before in
+    let b = l .before .before in
+    let a = b .before .before .args in
+    let g = next-number _ (l .loop .i) _ _ _ (n .field64 .ensures) in
+    areas-refused _ _ _ _ (c .no-areas2 .ensures) (areas-above (a .s .now) (a .at) _ _ _ (b .begun .ensures .0) (l .before .if1 .left) (suc (l .loop .i)) (omega arith) (omega arith))
+
+add-sum : tie.Need-add-sum Inv-loop μ-loop
+add-sum c = search needs
+
+mul-areas : tie.Need-mul-areas Inv-loop μ-loop
+mul-areas c = search needs
+
+array-set-from-areas : tie.Need-array-set-from-areas Inv-loop μ-loop
+array-set-from-areas c = search needs
+
+add-i : tie.Need-add-i Inv-loop μ-loop
+add-i c = search needs
+
+loop-less : tie.Need-loop-less Inv-loop μ-loop
+loop-less c = search needs
+
+loop-again : tie.Need-loop-again Inv-loop μ-loop
+loop-again c =
+    let l = c .before .before .before .loop in
+    let g = next-number _ (l .i) _ _ _ (c .before .field64 .ensures) in
+    rw add-one (
+      omega arith,
+      length-set (l .areas) _ _ ∙ l .inv .1,
+      amounts-next (l .areas) (l .i) _ (omega arith) ∙ rw (l .inv .2) (sym (g .0)),
+      omega arith,
+      omega arith,
+    )
+
+no-areas-requires-3 : tie.Need-no-areas-requires-3 Inv-loop μ-loop
+no-areas-requires-3 c κs = search needs
+
+returns-3 : tie.Need-returns-3 Inv-loop μ-loop
+returns-3 c =
+    let l = c .before .before .before in
+    let b = l .before .before in
+    let a = b .before .before .args in
+    let k = rw (done (c .before .before)) at (l .loop .inv) in
+    areas-refused _ _ _ _ (c .no-areas3 .ensures) (areas-below (a .s .now) (a .at) _ (a .least) _ (b .begun .ensures .0) (l .before .if1 .left) (omega arith))
+
+add-t20 : tie.Need-add-t20 Inv-loop μ-loop
+add-t20 c = search needs
+
+returns-4 : tie.Need-returns-4 Inv-loop μ-loop
+returns-4 c =
+    let l = c .before .before in
+    let b = l .before .before in
+    let a = b .before .before .args in
+    let k = rw (done (c .before)) at (l .loop .inv) in
+    let e : amounts (l .loop .areas) ≡ numbers 12 8 (drop (a .at + 2) (a .s .now)) = rw (take-all 12 (l .loop .areas) (omega arith)) at (k .2) in
+    rw e (areas-read (a .s .now) (a .at) _ (a .least) _ (b .begun .ensures .0) (l .before .if1 .left) (omega arith) (omega arith), (omega arith, k .3))
+
+pub read-areas-spec : {M : Type 1} → statement M
+read-areas-spec =
+    tie.close
+    (tie.spec
+    Inv-loop
+    μ-loop
+    begun-requires
+    no-areas-requires
+    returns
+    loop-holds
+    add-field64
+    mul-field64
+    add-field64-2
+    field64-requires
+    sub-if2
+    no-areas-requires-2
+    returns-2
+    add-sum
+    mul-areas
+    array-set-from-areas
+    add-i
+    loop-less
+    loop-again
+    no-areas-requires-3
+    returns-3
+    add-t20
+    returns-4)

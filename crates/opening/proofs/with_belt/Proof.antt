@@ -1,0 +1,73 @@
+-- `opening::with_belt` meets its contract: the first refusal of DA and MP is its own; otherwise both are read.
+-- Assumes nothing.
+use borrow.Author.Needs.{needs}
+use Rattle.cursor.proofs.AtLaws.{bind-no}
+use Rattle.opening.specs.Answers.{fromBelt}
+use Rattle.opening.proofs.OpeningLaws.{opening-refused, matrix-fault, opening-read}
+use Rattle.opening.proofs.with_belt.Statement.{statement}
+use Rattle.opening.proofs.with_belt.Tie as tie
+
+read-areas-requires : tie.Need-read-areas-requires
+read-areas-requires c κs = search needs
+
+enum-known-found : tie.Need-enum-known-found
+enum-known-found c = search needs
+
+no-opening-requires : tie.Need-no-opening-requires
+no-opening-requires c κs = search needs
+
+enum-known-found-2 : tie.Need-enum-known-found-2
+enum-known-found-2 c = search needs
+
+read-matrix-under-requires : tie.Need-read-matrix-under-requires
+read-matrix-under-requires c κs =
+    let k = c .before in
+    (rw (k .found2 .given .1) at (k .before .before .before .read-areas .ensures .1)) .0
+
+enum-known-answer : tie.Need-enum-known-answer
+enum-known-answer c = search needs
+
+no-opening-requires-2 : tie.Need-no-opening-requires-2
+no-opening-requires-2 c κs = search needs
+
+enum-known-answer-2 : tie.Need-enum-known-answer-2
+enum-known-answer-2 c = search needs
+
+returns : tie.Need-returns
+unfolding fromBelt
+returns c =
+    let k = c .before .before in
+    opening-refused _ _ _ _ (c .no-opening .ensures) (bind-no _ _ _ _ (rw (k .found .given .1) at (k .before .before .before .read-areas .ensures .0)))
+
+returns-2 : tie.Need-returns-2
+returns-2 c =
+    let m = c .before .before in
+    let r = m .before .before .before in
+    let k = r .before .before in
+    let b = rw (k .found2 .given .1) at (k .before .before .before .read-areas .ensures) in
+    opening-refused _ _ _ _ (c .no-opening2 .ensures) (matrix-fault _ _ _ _ _ (b .0) _ (rw (m .answer .given .1) at (r .read-matrix-under .ensures .0)))
+
+returns-3 : tie.Need-returns-3
+returns-3 c =
+    let m = c .before in
+    let r = m .before .before .before in
+    let k = r .before .before in
+    let b = rw (k .found2 .given .1) at (k .before .before .before .read-areas .ensures) in
+    let q = rw (m .answer2 .given .1) at (r .read-matrix-under .ensures) in
+    (opening-read _ _ _ _ _ (b .0) _ _ (q .0), (q .1 .0, k .before .before .before .before .before .pre .1, b .1 .1, q .1 .1))
+
+pub with-belt-spec : {M : Type 1} → statement M
+with-belt-spec =
+    tie.close
+    (tie.spec
+    read-areas-requires
+    enum-known-found
+    no-opening-requires
+    enum-known-found-2
+    read-matrix-under-requires
+    enum-known-answer
+    no-opening-requires-2
+    enum-known-answer-2
+    returns
+    returns-2
+    returns-3)

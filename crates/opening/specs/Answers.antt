@@ -1,0 +1,135 @@
+-- What the answers say: document 01's number, or the records read and the bytes left.
+-- Assumes nothing.
+use Prim.Native.Nat.{ℕ, _≤_}
+use mathlib.Core.Path.{_≡_}
+use mathlib.Core.Bool.{cond}
+use mathlib.Core.Option.{Option, none, some}
+use mathlib.Core.List.{List, map}
+use lib.Dec.{eqb}
+use lib.ListN.{length, drop, replicate}
+use Rattle.wire.specs.Bytes.{total}
+use Rattle.classes.specs.declared.AreaUnits.{AreaUnits}
+use Rattle.classes.specs.Matrix.{optionOneMatrix}
+use Rattle.dossier.specs.Marks.{PA, DA}
+use Rattle.dossier.specs.Reader.{Judged, refused, accepted, Reader, _>>=_, give}
+use Rattle.dossier.specs.Records.{Head, Opening}
+use Rattle.dossier.specs.JudgingRecords.{areas, matrixUnder}
+use Rattle.opening.specs.declared.Head.{Head as HeadFields}
+use Rattle.opening.specs.declared.HeadAnswer.{HeadAnswer}
+use Rattle.opening.specs.declared.AreasAnswer.{AreasAnswer}
+use Rattle.opening.specs.declared.Areas.{Areas}
+use Rattle.opening.specs.declared.MatrixAnswer.{MatrixAnswer}
+use Rattle.opening.specs.declared.Matrix.{Matrix}
+use Rattle.opening.specs.declared.OpeningAnswer.{OpeningAnswer}
+use Rattle.opening.specs.declared.Opened.{Opened}
+
+-- ---- HD
+abbrev pub headOf : ℕ → ℕ → ℕ → Head
+headOf option first years = record { option = option; firstYear = first; years = years }
+
+abbrev pub headFields : HeadFields → Head
+headFields h = headOf (h .option) (h .first) (h .years)
+
+abbrev pub headSays : List ℕ → HeadAnswer → Judged Head
+headSays s (HeadAnswer.Read h next) = accepted (headFields h) (drop next s)
+headSays s (HeadAnswer.Refused n) = refused n
+
+abbrev pub headInside : List ℕ → HeadAnswer → Type 0
+headInside s (HeadAnswer.Read h next) = next ≤ length s
+headInside s (HeadAnswer.Refused n) = Unit {0}
+
+-- ---- PA, DA: the areas stand beside the answer, all zero where it is a refusal
+abbrev pub amounts : List AreaUnits → List ℕ
+amounts areas = map (λ (a : AreaUnits). a .0) areas
+
+abbrev pub noAreas : ℕ → Areas
+noAreas n = record { answer = AreasAnswer.Refused n; areas = replicate 12 (record { 0 = 0 }) }
+
+abbrev pub areasJudged : List ℕ → List AreaUnits → AreasAnswer → Judged (List ℕ)
+areasJudged s areas (AreasAnswer.Read sum next) = accepted (amounts areas) (drop next s)
+areasJudged s areas (AreasAnswer.Refused n) = refused n
+
+abbrev pub areasSays : List ℕ → Areas → Judged (List ℕ)
+areasSays s r = areasJudged s (r .areas) (r .answer)
+
+-- the next record begins inside, and the sum handed on is that of the areas
+abbrev pub areasFacts : List ℕ → List AreaUnits → AreasAnswer → Type 0
+areasFacts s areas (AreasAnswer.Read sum next) = (next ≤ length s) × (sum .0 ≡ total (amounts areas))
+areasFacts s areas (AreasAnswer.Refused n) = Unit {0}
+
+abbrev pub areasInside : List ℕ → Areas → Type 0
+areasInside s r = areasFacts s (r .areas) (r .answer)
+
+-- ---- MP
+abbrev pub noMatrix : ℕ → Matrix
+noMatrix n = record { answer = MatrixAnswer.Refused n; matrix = replicate 144 0 }
+
+abbrev pub matrixJudged : List ℕ → List ℕ → MatrixAnswer → Judged (List ℕ)
+matrixJudged s matrix (MatrixAnswer.Read next) = accepted matrix (drop next s)
+matrixJudged s matrix (MatrixAnswer.Refused n) = refused n
+
+abbrev pub matrixSays : List ℕ → Matrix → Judged (List ℕ)
+matrixSays s r = matrixJudged s (r .matrix) (r .answer)
+
+abbrev pub matrixFacts : List ℕ → MatrixAnswer → Type 0
+matrixFacts s (MatrixAnswer.Read next) = next ≤ length s
+matrixFacts s (MatrixAnswer.Refused n) = Unit {0}
+
+abbrev pub matrixInside : List ℕ → Matrix → Type 0
+matrixInside s r = matrixFacts s (r .answer)
+
+-- ---- MP under the options: its matrix under Option 2, none under Option 1
+abbrev pub matrixOf : ℕ → List ℕ → Option (List ℕ)
+matrixOf option matrix = cond (eqb option 2) (some matrix) none
+
+-- "Option 1 uses the matrix" of table 4
+abbrev pub matrixInUse : Option (List ℕ) → List ℕ
+matrixInUse none = optionOneMatrix
+matrixInUse (some matrix) = matrix
+
+abbrev pub matrixUnderJudged : ℕ → List ℕ → List ℕ → MatrixAnswer → Judged (Option (List ℕ))
+matrixUnderJudged option s matrix (MatrixAnswer.Read next) = accepted (matrixOf option matrix) (drop next s)
+matrixUnderJudged option s matrix (MatrixAnswer.Refused n) = refused n
+
+abbrev pub matrixUnderSays : ℕ → List ℕ → Matrix → Judged (Option (List ℕ))
+matrixUnderSays option s r = matrixUnderJudged option s (r .matrix) (r .answer)
+
+-- the next record begins inside, and the matrix held is the one in use
+abbrev pub matrixUnderFacts : ℕ → List ℕ → List ℕ → MatrixAnswer → Type 0
+matrixUnderFacts option s matrix (MatrixAnswer.Read next) = (next ≤ length s) × (matrix ≡ matrixInUse (matrixOf option matrix))
+matrixUnderFacts option s matrix (MatrixAnswer.Refused n) = Unit {0}
+
+abbrev pub matrixUnderInside : ℕ → List ℕ → Matrix → Type 0
+matrixUnderInside option s r = matrixUnderFacts option s (r .matrix) (r .answer)
+
+-- ---- HD to MP
+abbrev pub noOpening : ℕ → Opened
+noOpening n = record { answer = OpeningAnswer.Refused n; project = replicate 12 (record { 0 = 0 }); belt = replicate 12 (record { 0 = 0 }); matrix = replicate 144 0 }
+
+abbrev pub openedJudged : List ℕ → Opened → OpeningAnswer → Judged Opening
+openedJudged s r (OpeningAnswer.Read option first years project belt next) =
+    accepted (record { head = headOf option first years; projectAreas = amounts (r .project); beltAreas = amounts (r .belt); matrix = matrixOf option (r .matrix) }) (drop next s)
+openedJudged s r (OpeningAnswer.Refused n) = refused n
+
+abbrev pub openedSays : List ℕ → Opened → Judged Opening
+openedSays s r = openedJudged s r (r .answer)
+
+abbrev pub openedFacts : List ℕ → Opened → OpeningAnswer → Type 0
+openedFacts s r (OpeningAnswer.Read option first years project belt next) =
+    (next ≤ length s) × (project .0 ≡ total (amounts (r .project))) × (belt .0 ≡ total (amounts (r .belt))) × (r .matrix ≡ matrixInUse (matrixOf option (r .matrix)))
+openedFacts s r (OpeningAnswer.Refused n) = Unit {0}
+
+abbrev pub openedInside : List ℕ → Opened → Type 0
+openedInside s r = openedFacts s r (r .answer)
+
+-- the opening from DA on, after HD and PA; from PA on, after HD
+unfoldable pub fromBelt : Head → List ℕ → Reader Opening
+fromBelt h project = do
+  belt ← areas DA 0
+  m ← matrixUnder (h .option)
+  give (record { head = h; projectAreas = project; beltAreas = belt; matrix = m })
+
+unfoldable pub fromAreas : Head → Reader Opening
+fromAreas h = do
+  project ← areas PA 1
+  fromBelt h project

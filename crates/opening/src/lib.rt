@@ -1,0 +1,310 @@
+// The opening of a dossier or of a ledger: HD, PA, DA and, under Option 2, MP.
+use classes::AreaUnits;
+ghost use mathlib.Core.Path.{_≡_};
+ghost use Prim.Native.Nat.{_+_, _*_, _≤_, _<_};
+ghost use lib.ListN.{length, drop};
+ghost use lib.Seq.{sets};
+ghost use Rattle.wire.specs.Bytes.{numbers, total};
+ghost use Rattle.dossier.specs.JudgingRecords.{head, areas as judgedAreas, matrix as judgedMatrix, matrixUnder};
+ghost use Rattle.dossier.specs.Judging.{opening as judgedOpening, openingPiece};
+ghost use Rattle.opening.specs.Answers.{headFields, headSays, headInside, amounts, noAreas, areasSays, areasInside, noMatrix, matrixSays, matrixInside};
+ghost use Rattle.opening.specs.Answers.{matrixUnderSays, matrixUnderInside, noOpening, openedSays, openedInside, fromBelt, fromAreas};
+
+const HD: u64 = 0x4844;
+
+const PA: u64 = 0x5041;
+
+const DA: u64 = 0x4441;
+
+const MP: u64 = 0x4d50;
+
+// The fields of HD.
+struct Head {
+    option: u64,
+    first: u64,
+    years: u64,
+}
+
+// Each answer: what was read, and the place after it; or the number of the refusal.
+enum HeadAnswer {
+    Read { head: Head, next: usize },
+    Refused(u8),
+}
+
+enum AreasAnswer {
+    Read { sum: AreaUnits, next: usize },
+    Refused(u8),
+}
+
+// Twelve areas with the answer; all zero where it is a refusal.
+struct Areas {
+    answer: AreasAnswer,
+    areas: [AreaUnits; 12],
+}
+
+enum MatrixAnswer {
+    Read(usize),
+    Refused(u8),
+}
+
+// A matrix with the answer; all zero where it is a refusal.
+struct Matrix {
+    answer: MatrixAnswer,
+    matrix: [u64; 144],
+}
+
+pub enum OpeningAnswer {
+    Read {
+        option: u64,
+        first: u64,
+        years: u64,
+        project: AreaUnits,
+        belt: AreaUnits,
+        next: usize,
+    },
+    Refused(u8),
+}
+
+// An opening with its areas and the matrix in use; all zero where it is a refusal.
+pub struct Opened {
+    pub answer: OpeningAnswer,
+    pub project: [AreaUnits; 12],
+    pub belt: [AreaUnits; 12],
+    pub matrix: [u64; 144],
+}
+
+// HD from at.
+fn read_head(s: &[u8], at: usize) -> HeadAnswer
+    requires { ⌜ at ≤ length (now s) ⌝ }
+    ensures { λ r. ⌜ headSays (now (s .entry)) r ≡ head (drop at (now (s .entry))) ⌝ }
+    ensures { λ r. ⌜ headInside (now (s .entry)) r ⌝ }
+{
+    let fault = cursor::begun(s, at, HD, 4);
+    if fault != 0 {
+        return HeadAnswer::Refused(fault);
+    }
+    let option = wire::field8(s, at + 2);
+    let first = wire::field16(s, at + 3);
+    let years = wire::field8(s, at + 5);
+    if cursor::outside(option, 1, 2) {
+        return HeadAnswer::Refused(3);
+    }
+    if cursor::outside(first, 2000, 2200) {
+        return HeadAnswer::Refused(3);
+    }
+    if cursor::outside(years, 1, 20) {
+        return HeadAnswer::Refused(3);
+    }
+    HeadAnswer::Read {
+        head: Head {
+            option,
+            first,
+            years,
+        },
+        next: at + 6,
+    }
+}
+
+fn no_areas(n: u8) -> Areas
+    ensures { λ r. ⌜ r ≡ noAreas n ⌝ }
+{
+    Areas {
+        answer: AreasAnswer::Refused(n),
+        areas: [AreaUnits(0); 12],
+    }
+}
+
+// PA or DA from at: twelve areas whose sum is from least to 10^12. Each is tested against what is left
+// before it is added, so the sum never wraps.
+fn read_areas(s: &[u8], at: usize, m: u64, least: u64) -> Areas
+    requires { ⌜ at ≤ length (now s) ⌝ }
+    ensures { λ r. ⌜ areasSays (now (s .entry)) r ≡ judgedAreas m least (drop at (now (s .entry))) ⌝ }
+    ensures { λ r. ⌜ areasInside (now (s .entry)) r ⌝ }
+{
+    let fault = cursor::begun(s, at, m, 96);
+    if fault != 0 {
+        return no_areas(fault);
+    }
+    let mut areas = [AreaUnits(0); 12];
+    let mut sum: u64 = 0;
+    let mut i: usize = 0;
+    while i < 12 {
+        let x = wire::field64(s, at + 2 + 8 * i);
+        if 1000000000000 - sum < x {
+            return no_areas(4);
+        }
+        sum = sum + x;
+        areas[i] = AreaUnits(x);
+        i += 1;
+    }
+    if sum < least {
+        return no_areas(4);
+    }
+    Areas {
+        answer: AreasAnswer::Read {
+            sum: AreaUnits(sum),
+            next: at + 98,
+        },
+        areas,
+    }
+}
+
+fn no_matrix(n: u8) -> Matrix
+    ensures { λ r. ⌜ r ≡ noMatrix n ⌝ }
+{
+    Matrix {
+        answer: MatrixAnswer::Refused(n),
+        matrix: [0u64; 144],
+    }
+}
+
+// Stores twelve numbers of 32 bits from at as row i of a matrix; their sum.
+fn fill_row(matrix: &mut [u64; 144], i: usize, s: &[u8], at: usize) -> u64
+    requires { ⌜ (i < 12) × (at + 48 ≤ length (now s)) ⌝ }
+    ensures { λ r. ⌜ r ≡ total (numbers 12 4 (drop at (now (s .entry)))) ⌝ }
+    ensures { λ r. ⌜ now (matrix .exit) ≡ sets (now (matrix .entry)) (12 * i) (numbers 12 4 (drop at (now (s .entry)))) ⌝ }
+{
+    let mut sum: u64 = 0;
+    let mut j: usize = 0;
+    while j < 12 {
+        let p = wire::field32(s, at + 4 * j);
+        matrix[12 * i + j] = p;
+        sum = sum + p;
+        j += 1;
+    }
+    sum
+}
+
+// MP from at: the matrix filled row by row, each row tested.
+fn read_matrix(s: &[u8], at: usize) -> Matrix
+    requires { ⌜ at ≤ length (now s) ⌝ }
+    ensures { λ r. ⌜ matrixSays (now (s .entry)) r ≡ judgedMatrix (drop at (now (s .entry))) ⌝ }
+    ensures { λ r. ⌜ matrixInside (now (s .entry)) r ⌝ }
+{
+    let fault = cursor::begun(s, at, MP, 576);
+    if fault != 0 {
+        return no_matrix(fault);
+    }
+    let mut matrix = [0u64; 144];
+    let mut i: usize = 0;
+    while i < 12 {
+        if fill_row(&mut matrix, i, s, at + 2 + 48 * i) != 1000000 {
+            return no_matrix(5);
+        }
+        i += 1;
+    }
+    Matrix {
+        answer: MatrixAnswer::Read(at + 578),
+        matrix,
+    }
+}
+
+// The matrix in use from at: MP under Option 2, table 4's under Option 1.
+fn read_matrix_under(s: &[u8], at: usize, option: u64) -> Matrix
+    requires { ⌜ at ≤ length (now s) ⌝ }
+    ensures { λ r. ⌜ matrixUnderSays option (now (s .entry)) r ≡ matrixUnder option (drop at (now (s .entry))) ⌝ }
+    ensures { λ r. ⌜ matrixUnderInside option (now (s .entry)) r ⌝ }
+{
+    if option == 2 {
+        return read_matrix(s, at);
+    }
+    Matrix {
+        answer: MatrixAnswer::Read(at),
+        matrix: classes::option_one_matrix(),
+    }
+}
+
+fn no_opening(n: u8) -> Opened
+    ensures { λ r. ⌜ r ≡ noOpening n ⌝ }
+{
+    Opened {
+        answer: OpeningAnswer::Refused(n),
+        project: [AreaUnits(0); 12],
+        belt: [AreaUnits(0); 12],
+        matrix: [0u64; 144],
+    }
+}
+
+// The opening from DA on, after HD and PA, whose areas and their sum are given.
+fn with_belt(s: &[u8], at: usize, h: Head, sum: AreaUnits, areas: [AreaUnits; 12]) -> Opened
+    requires { ⌜ (at ≤ length (now s)) × (sum .0 ≡ total (amounts areas)) ⌝ }
+    ensures { λ r. ⌜ openedSays (now (s .entry)) r ≡ fromBelt (headFields h) (amounts areas) (drop at (now (s .entry))) ⌝ }
+    ensures { λ r. ⌜ openedInside (now (s .entry)) r ⌝ }
+{
+    let b = read_areas(s, at, DA, 0);
+    let found = b.answer;
+    let belt_areas = b.areas;
+    match found {
+        AreasAnswer::Refused(n) => no_opening(n),
+        AreasAnswer::Read { sum: belt, next } => {
+            let m = read_matrix_under(s, next, h.option);
+            let answer = m.answer;
+            let matrix = m.matrix;
+            match answer {
+                MatrixAnswer::Refused(n) => no_opening(n),
+                MatrixAnswer::Read(next) => Opened {
+                    answer: OpeningAnswer::Read {
+                        option: h.option,
+                        first: h.first,
+                        years: h.years,
+                        project: sum,
+                        belt,
+                        next,
+                    },
+                    project: areas,
+                    belt: belt_areas,
+                    matrix,
+                },
+            }
+        }
+    }
+}
+
+// The opening from PA on, after HD.
+fn with_areas(s: &[u8], at: usize, h: Head) -> Opened
+    requires { ⌜ at ≤ length (now s) ⌝ }
+    ensures { λ r. ⌜ openedSays (now (s .entry)) r ≡ fromAreas (headFields h) (drop at (now (s .entry))) ⌝ }
+    ensures { λ r. ⌜ openedInside (now (s .entry)) r ⌝ }
+{
+    let p = read_areas(s, at, PA, 1);
+    let found = p.answer;
+    let areas = p.areas;
+    match found {
+        AreasAnswer::Refused(n) => no_opening(n),
+        AreasAnswer::Read { sum, next } => with_belt(s, next, h, sum, areas),
+    }
+}
+
+// The opening from at: HD to DA, or to MP under Option 2.
+pub fn read_opening(s: &[u8], at: usize) -> Opened
+    requires { ⌜ at ≤ length (now s) ⌝ }
+    ensures { λ r. ⌜ openedSays (now (s .entry)) r ≡ judgedOpening (drop at (now (s .entry))) ⌝ }
+    ensures { λ r. ⌜ openedInside (now (s .entry)) r ⌝ }
+{
+    match read_head(s, at) {
+        HeadAnswer::Refused(n) => no_opening(n),
+        HeadAnswer::Read { head, next } => with_areas(s, next, head),
+    }
+}
+
+// An opening piece: HD to DA or MP, and nothing after it.
+pub fn read_opening_piece(s: &[u8]) -> Opened
+    ensures { λ r. ⌜ openedSays (now (s .entry)) r ≡ openingPiece (now (s .entry)) ⌝ }
+    ensures { λ r. ⌜ openedInside (now (s .entry)) r ⌝ }
+{
+    let opened = read_opening(s, 0);
+    let answer = opened.answer;
+    match answer {
+        OpeningAnswer::Refused(n) => no_opening(n),
+        OpeningAnswer::Read { next, .. } => {
+            let left = s.len() - next;
+            if left == 1 {
+                return no_opening(1);
+            }
+            if 0 < left {
+                return no_opening(2);
+            }
+            opened
+        }
+    }
+}

@@ -1,0 +1,88 @@
+-- CP and CD at a place, from what the code reads there.
+-- Assumes nothing.
+use mathlib.Core.Path.{_≡_, refl, _∙_, ap, sym}
+use mathlib.Core.Bool.{cond}
+use mathlib.Core.List.{List, [], _∷_}
+use Prim.Native.Nat.{ℕ, zero, suc, _+_, _*_, _≤_, _<_}
+use native.Mathlib.Nat.{le-of-suc-le-suc, mul-le-mul-left}
+use native.Mathlib.Numerals.{add-one}
+use native.Mathlib.Omega.{arith}
+use lib.Dec.{eqb}
+use lib.ListN.{length, take, drop, getD}
+use lib.Seq.{drop-drop}
+use borrow.Author.Tests.{eq-eqb, ne-eqb}
+use Rattle.arithmetic.specs.Sum.{sum}
+use Rattle.arithmetic.proofs.SumLaws.{sum-none, sum-next, sum-cong}
+use Rattle.classes.specs.declared.CarbonUnits.{CarbonUnits}
+use Rattle.classes.specs.Matrix.{entry}
+use Rattle.projection.specs.Projection.{FactorsFit}
+use Rattle.figures.specs.Figures.{monitoredCarbon}
+use Rattle.figures.proofs.FiguresLaws.{monitored-places}
+use Rattle.wire.specs.Bytes.{number, numbers, total, fieldAt}
+use Rattle.dossier.specs.Reader.{Judged, refused, accepted, _>>=_, give, begin}
+use Rattle.dossier.specs.JudgingRecords.{conversions}
+use Rattle.dossier.proofs.LoopLaws.{total-more, total-le}
+use Rattle.cursor.specs.Answers.{begunSays}
+use Rattle.cursor.proofs.AtLaws.{begun-no, begun-yes, reading, bind-no, bind-yes}
+use Rattle.years.specs.Answers.{monitoredTable}
+
+numbers-entry : (k w : ℕ) (s : List ℕ) (i : ℕ) → i < k → getD (numbers k w s) i 0 ≡ number (take w (drop (w * i) s))
+unfolding numbers
+numbers-entry zero w s i h = let z : ⊥ = omega arith in absurd z
+numbers-entry (suc k) w s zero h = let e : w * 0 ≡ 0 = omega arith in rw e
+numbers-entry (suc k) w s (suc i) h =
+    let e : w * suc i ≡ w + w * i = omega arith in
+    rw (e, ← drop-drop (w * i) w s) (numbers-entry k w (drop w s) i (le-of-suc-le-suc h))
+
+-- the conversions from a place, and what the first k of them weigh
+abbrev pub cells : List ℕ → ℕ → ℕ → List ℕ
+cells s at k = numbers k 8 (drop (at + 2) s)
+
+abbrev pub weight : List ℕ → List ℕ → ℕ → ℕ → ℕ
+weight s factors at k = sum k (λ i. fieldAt 8 s (at + 2 + 8 * i) * getD factors i 0)
+
+weight-all : (s factors : List ℕ) (at : ℕ) → weight s factors at 144 ≡ monitoredCarbon (entry factors) (cells s at 144)
+unfolding fieldAt
+weight-all s factors at =
+    sum-cong 144 (λ i. fieldAt 8 s (at + 2 + 8 * i) * getD factors i 0) (λ i. getD (cells s at 144) i 0 * getD factors i 0)
+    (λ i h. rw (numbers-entry 144 8 (drop (at + 2) s) i h, drop-drop (8 * i) (at + 2) s))
+    ∙ monitored-places (cells s at 144) factors
+
+-- ---- one conversion more: x from its place, its carbon c
+module _ (s factors : List ℕ) (at k left carbon x c all : ℕ) (fit : FactorsFit factors) (ex : x ≡ fieldAt 8 s (at + 2 + 8 * k)) where
+  pub one-more : total (cells s at k) + left ≡ all → total (cells s at (suc k)) + left ≡ all + x
+  unfolding fieldAt
+  one-more h =
+      let p : at + 2 + k * 8 ≡ at + 2 + 8 * k = omega arith in
+      omega (arith, total-more k 8 s (at + 2) x (rw p ex))
+
+  pub weighed : carbon ≡ weight s factors at k → c ≡ x * getD factors k 0 → carbon + c ≡ weight s factors at (k + 1)
+  weighed e f = omega (arith, sum-next k (λ i. fieldAt 8 s (at + 2 + 8 * i) * getD factors i 0), f ∙ ap (λ (n : ℕ). n * getD factors k 0) ex)
+
+  pub small : c ≡ x * getD factors k 0 → c ≤ x * 65535
+  small f = rw f (mul-le-mul-left x (omega (arith, fit k)))
+
+-- ---- what the code answers
+module _ (s factors : List ℕ) (at m all r : ℕ) (h : begunSays s at r ≡ begin m 1152 (drop at s)) where
+  pub table-no : (r ≡ 0 → ⊥) → refused r ≡ monitoredTable (entry factors) m all (drop at s)
+  unfolding monitoredTable conversions
+  table-no f = bind-no (conversions m all) _ (drop at s) r (begun-no s at m 1152 r h _ f)
+
+  module _ (z : r ≡ 0) where
+    table-at : conversions m all (drop at s) ≡ cond (eqb (total (cells s at 144)) all) (accepted (cells s at 144) (drop (at + 1154) s)) (refused 7)
+    unfolding conversions
+    table-at = rw (← begun-yes s at m 1152 r h _ z) (simp reading)
+
+    pub table-wrong : (total (cells s at 144) ≡ all → ⊥) → refused 7 ≡ monitoredTable (entry factors) m all (drop at s)
+    unfolding monitoredTable
+    table-wrong f = bind-no (conversions m all) _ (drop at s) 7 (rw (table-at, ne-eqb _ _ f))
+
+    pub table-over : (k : ℕ) → k < 144 → all < total (cells s at (suc k)) → refused 7 ≡ monitoredTable (entry factors) m all (drop at s)
+    table-over k l o = table-wrong (λ e. omega (arith, total-le (suc k) 144 8 (drop (at + 2) s) l))
+
+    pub table-read : total (cells s at 144) ≡ all → (carbon : ℕ) → carbon ≡ weight s factors at 144
+        → _≡_ {A = Judged CarbonUnits} (accepted (record { 0 = carbon }) (drop (at + 1154) s)) (monitoredTable (entry factors) m all (drop at s))
+    unfolding monitoredTable give
+    table-read e carbon w =
+        ap {B = Judged CarbonUnits} (λ (n : ℕ). accepted (record { 0 = n }) (drop (at + 1154) s)) (w ∙ weight-all s factors at)
+        ∙ bind-yes (conversions m all) _ (drop at s) (cells s at 144) (drop (at + 1154) s) (rw (table-at, eq-eqb _ _ e))

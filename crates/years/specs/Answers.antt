@@ -1,0 +1,94 @@
+-- A year as the reckoning takes it, its tables by their carbon and its records by their emissions, and what the answers say.
+-- Assumes nothing.
+use Prim.Native.Nat.{ℕ, _≤_}
+use mathlib.Core.Path.{_≡_}
+use mathlib.Core.List.{List}
+use lib.IntN.{pos}
+use lib.ListN.{length, drop}
+use Rattle.classes.specs.declared.CarbonUnits.{CarbonUnits}
+use Rattle.classes.specs.declared.Grams.{Grams}
+use Rattle.classes.specs.Calendar.{daysInYear}
+use Rattle.activity.specs.Activity.{activityEmissions}
+use Rattle.figures.specs.Year.{Year}
+use Rattle.figures.specs.Figures.{monitoredCarbon}
+use Rattle.figures.specs.Ranges.{SmallCarbon, SmallGrams}
+use Rattle.dossier.specs.Records.{Due}
+use Rattle.dossier.specs.Reader.{Judged, refused, accepted, Reader, _>>=_, _>>_, give, endOfPiece}
+use Rattle.dossier.specs.JudgingRecords.{conversions}
+use Rattle.dossier.specs.Marks.{CP, CD}
+use Rattle.dossier.specs.Judging.{year, yearPiece}
+use Rattle.activities.specs.Answers.{Summed, summedActivities}
+use Rattle.years.specs.declared.TableAnswer.{TableAnswer}
+use Rattle.years.specs.declared.YearAnswer.{YearAnswer}
+
+-- ---- CP, CD: the carbon of the conversions by a table of factors
+unfoldable pub monitoredTable : (ℕ → ℕ → ℕ) → ℕ → ℕ → Reader CarbonUnits
+monitoredTable factor m settledTotal = do
+  xs ← conversions m settledTotal
+  give (record { 0 = monitoredCarbon factor xs })
+
+abbrev pub tableSays : List ℕ → TableAnswer → Judged CarbonUnits
+tableSays s (TableAnswer.Read carbon next) = accepted carbon (drop next s)
+tableSays s (TableAnswer.Refused n) = refused n
+
+-- the next record begins inside, and the carbon is small
+abbrev pub tableInside : List ℕ → TableAnswer → Type 0
+tableInside s (TableAnswer.Read carbon next) = (next ≤ length s) × SmallCarbon (carbon .0)
+tableInside s (TableAnswer.Refused n) = Unit {0}
+
+-- ---- YR to the last activity record
+pub record Summary : Type 0 where
+  pub year : ℕ
+  pub days : ℕ
+  pub project : CarbonUnits
+  pub belt : CarbonUnits
+  pub activity : Grams
+
+abbrev pub summary : (ℕ → ℕ → ℕ) → Year → Summary
+summary factor y = record {
+  year = y .year;
+  days = y .operatingDays;
+  project = record { 0 = monitoredCarbon factor (y .conversions) };
+  belt = record { 0 = monitoredCarbon factor (y .beltConversions) };
+  activity = record { 0 = pos (activityEmissions (y .activities)) };
+}
+
+unfoldable pub summarizedYear : (ℕ → ℕ → ℕ) → Due → Reader Summary
+summarizedYear factor due = do
+  y ← year due
+  give (summary factor y)
+
+unfoldable pub summarizedPiece : (ℕ → ℕ → ℕ) → Due → Reader Summary
+summarizedPiece factor due = do
+  y ← yearPiece due
+  give (summary factor y)
+
+-- from the activity records on, and from CP on
+unfoldable pub summarizedRecords : ℕ → ℕ → CarbonUnits → CarbonUnits → Reader Summary
+summarizedRecords calendarYear days project belt = do
+  r ← summedActivities
+  give (record { year = calendarYear; days = days; project = project; belt = belt; activity = r .grams })
+
+unfoldable pub summarizedTables : (ℕ → ℕ → ℕ) → ℕ → ℕ → ℕ → ℕ → Reader Summary
+summarizedTables factor calendarYear days projectTotal beltTotal = do
+  p ← monitoredTable factor CP projectTotal
+  b ← monitoredTable factor CD beltTotal
+  summarizedRecords calendarYear days p b
+
+abbrev pub yearSays : List ℕ → YearAnswer → Judged Summary
+yearSays s (YearAnswer.Read year days project belt activity next) = accepted (record { year = year; days = days; project = project; belt = belt; activity = activity }) (drop next s)
+yearSays s (YearAnswer.Refused n) = refused n
+
+-- the next record begins inside, and carbon and grams are small
+abbrev pub recordsInside : List ℕ → YearAnswer → Type 0
+recordsInside s (YearAnswer.Read year days project belt activity next) = (next ≤ length s) × SmallGrams (activity .0)
+recordsInside s (YearAnswer.Refused n) = Unit {0}
+
+abbrev pub tablesInside : List ℕ → YearAnswer → Type 0
+tablesInside s (YearAnswer.Read year days project belt activity next) = (next ≤ length s) × SmallCarbon (project .0) × SmallCarbon (belt .0) × SmallGrams (activity .0)
+tablesInside s (YearAnswer.Refused n) = Unit {0}
+
+-- a year was left, it is the one that is due, and d is no more than its days
+abbrev pub yearFits : ℕ → ℕ → YearAnswer → Type 0
+yearFits due left (YearAnswer.Read year days project belt activity next) = (1 ≤ left) × (year ≡ due) × (days ≤ daysInYear year)
+yearFits due left (YearAnswer.Refused n) = Unit {0}
