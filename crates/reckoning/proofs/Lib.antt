@@ -1,0 +1,2 @@
+pub mod AdvanceLaws
+pub mod StepLaws

@@ -1,0 +1,102 @@
+-- A step over the bytes: what the answers of its calls said, and the step in terms of the year that was read.
+-- Assumes nothing.
+use mathlib.Core.Path.{_≡_, refl, _∙_, ap, sym}
+use mathlib.Core.List.{List}
+use Prim.Native.Nat.{ℕ, _≤_, _<_}
+use native.Mathlib.Omega.{arith}
+use lib.IntN.{pos}
+use lib.ListN.{length, drop}
+use Rattle.arithmetic.proofs.SumLaws.{sum2-cong}
+use Rattle.classes.specs.declared.CarbonUnits.{CarbonUnits}
+use Rattle.classes.specs.declared.Grams.{Grams}
+use Rattle.classes.specs.Classes.{classes, emissionFactor}
+use Rattle.classes.specs.Matrix.{entry, tableOf}
+use Rattle.classes.specs.Calendar.{daysInYear}
+use Rattle.classes.proofs.MatrixLaws.{entry-tableOf}
+use Rattle.projection.specs.declared.Region.{Region}
+use Rattle.projection.specs.Projection.{flow, projectedCarbon}
+use Rattle.figures.specs.Year.{Terms, Year}
+use Rattle.figures.specs.Figures.{monitoredCarbon, countedFactor, referenceLevel, stockChangeEmissions, figuresOf}
+use Rattle.figures.specs.Ranges.{SmallCarbon, SmallGrams}
+use Rattle.figures.specs.Reckoning.{regionReference, tableEmissions, yearFigures}
+use Rattle.dossier.specs.Records.{Due}
+use Rattle.dossier.specs.Reader.{Judged, refused, accepted, Reader, after, _>>=_, give}
+use Rattle.dossier.specs.Judging.{year}
+use Rattle.cursor.proofs.AtLaws.{bind-no, bind-yes, bind-bind, after-same}
+use Rattle.years.specs.declared.YearAnswer.{YearAnswer}
+use Rattle.years.specs.Answers.{Summary, summary, summarizedYear, yearSays, tablesInside, yearFits}
+use Rattle.reckoning.specs.declared.State.{State}
+use Rattle.reckoning.specs.declared.Advanced.{Advanced}
+use Rattle.reckoning.specs.Step.{afterFigures, yearAdvanced, summaryFigures, summaryAdvanced, steppedYear}
+
+pub year-refused : (s : List ℕ) (r : YearAnswer) (n : ℕ) (j : Judged Summary) → r ≡ YearAnswer.Refused n → yearSays s r ≡ j → refused n ≡ j
+year-refused s r n j e q = rw e at q
+
+-- a year that was read, of the year that is due
+pub record WasRead (s : List ℕ) (due left days : ℕ) (p b : CarbonUnits) (a : Grams) (next : ℕ) (j : Judged Summary) : Type 0 where
+  pub says : accepted (record { year = due; days = days; project = p; belt = b; activity = a }) (drop next s) ≡ j
+  pub inside : next ≤ length s
+  pub project : SmallCarbon (p .0)
+  pub belt : SmallCarbon (b .0)
+  pub activity : SmallGrams (a .0)
+  pub some : 1 ≤ left
+  pub allowed : days ≤ daysInYear due
+
+pub year-was-read : (s : List ℕ) (r : YearAnswer) (due left y days : ℕ) (p b : CarbonUnits) (a : Grams) (next : ℕ) (j : Judged Summary) → r ≡ YearAnswer.Read y days p b a next → yearSays s r ≡ j → tablesInside s r → yearFits due left r
+    → WasRead s due left days p b a next j
+year-was-read s r due left y days p b a next j e q i f =
+    let k : (next ≤ length s) × SmallCarbon (p .0) × SmallCarbon (b .0) × SmallGrams (a .0) = rw e at i in
+    let g : (1 ≤ left) × (y ≡ due) × (days ≤ daysInYear y) = rw e at f in
+    let v : accepted (record { year = y; days = days; project = p; belt = b; activity = a }) (drop next s) ≡ j = rw e at q in
+    record { says = rw (g .1) at v; inside = k .0; project = k .1; belt = k .2; activity = k .3; some = g .0; allowed = rw (g .1) at (g .2) }
+
+module _ (factor counted : ℕ → ℕ → ℕ) (matrix : List ℕ) (due : Due) (state : State) (u : List ℕ) where
+  pub stepped-no : (n : ℕ) → refused n ≡ summarizedYear counted due u → refused n ≡ steppedYear factor counted matrix due state u
+  unfolding steppedYear
+  stepped-no n e = bind-no (summarizedYear counted due) _ u n e
+
+  pub stepped-yes : (m : Summary) (v : List ℕ) (a : Advanced) → accepted m v ≡ summarizedYear counted due u → a ≡ summaryAdvanced factor matrix m state → accepted a v ≡ steppedYear factor counted matrix due state u
+  unfolding steppedYear give
+  stepped-yes m v a e f = rw f (bind-yes (summarizedYear counted due) _ u m v e)
+
+-- ---- by the tables of the terms, a step is the year's own reckoning
+carbon-same : (f g : ℕ → ℕ → ℕ) (region : Region) (matrix : List ℕ) → ((i j : ℕ) → i < classes → j < classes → f i j ≡ g i j) → projectedCarbon f (region .areas) matrix ≡ projectedCarbon g (region .areas) matrix
+unfolding projectedCarbon
+carbon-same f g region matrix h = sum2-cong classes _ _ (λ i j hi hj. rw (h i j hi hj))
+
+monitored-same : (f g : ℕ → ℕ → ℕ) (xs : List ℕ) → ((i j : ℕ) → i < classes → j < classes → f i j ≡ g i j) → monitoredCarbon f xs ≡ monitoredCarbon g xs
+unfolding monitoredCarbon
+monitored-same f g xs h = sum2-cong classes _ _ (λ i j hi hj. rw (h i j hi hj))
+
+module _ (t : Terms) (factors counted : List ℕ) (ef : factors ≡ tableOf (emissionFactor (t .stocks))) (ec : counted ≡ tableOf (countedFactor (t .option) (entry factors))) where
+  factor-is : (i j : ℕ) → i < classes → j < classes → entry factors i j ≡ emissionFactor (t .stocks) i j
+  factor-is i j hi hj = rw ef (entry-tableOf (emissionFactor (t .stocks)) i j hi hj)
+
+  same-counted : (i j : ℕ) → i < classes → j < classes → countedFactor (t .option) (entry factors) i j ≡ countedFactor (t .option) (emissionFactor (t .stocks)) i j
+  unfolding countedFactor
+  same-counted i j hi hj = rw (factor-is i j hi hj)
+
+  counted-is : (i j : ℕ) → i < classes → j < classes → entry counted i j ≡ countedFactor (t .option) (emissionFactor (t .stocks)) i j
+  counted-is i j hi hj = ap (λ (l : List ℕ). entry l i j) ec ∙ entry-tableOf (countedFactor (t .option) (entry factors)) i j hi hj ∙ same-counted i j hi hj
+
+  figures-same : (y : Year) (project belt : Region) → summaryFigures (entry factors) (t .matrix) (summary (entry counted) y) project belt ≡ yearFigures t y project belt
+  unfolding summaryFigures yearFigures regionReference tableEmissions
+  figures-same y project belt =
+      rw (
+        carbon-same (entry factors) (emissionFactor (t .stocks)) project (t .matrix) factor-is,
+        carbon-same (entry factors) (emissionFactor (t .stocks)) belt (t .matrix) factor-is,
+        monitored-same (entry counted) (countedFactor (t .option) (emissionFactor (t .stocks))) (y .conversions) counted-is,
+        monitored-same (entry counted) (countedFactor (t .option) (emissionFactor (t .stocks))) (y .beltConversions) counted-is,
+      )
+
+  advanced-same : (y : Year) (state : State) → summaryAdvanced (entry factors) (t .matrix) (summary (entry counted) y) state ≡ yearAdvanced t y state
+  unfolding summaryAdvanced yearAdvanced
+  advanced-same y state = rw (figures-same y (state .project) (state .belt))
+
+  pub step-is : (due : Due) (state : State) (u : List ℕ) → steppedYear (entry factors) (entry counted) (t .matrix) due state u ≡ after (year due u) (λ y. give (yearAdvanced t y state))
+  unfolding steppedYear summarizedYear give _>>=_
+  step-is due state u =
+      bind-bind (year due u) _ _ ∙ after-same (year due u) _ _ (λ y v. last y v)
+    where
+      last : (y : Year) (v : List ℕ) → after (give (summary (entry counted) y) v) (λ m. give (summaryAdvanced (entry factors) (t .matrix) m state)) ≡ give (yearAdvanced t y state) v
+      last y v = rw (advanced-same y state)

@@ -1,0 +1,79 @@
+-- One year's reckoning: what it does to the state that years change, and the figures it makes.
+-- Assumes nothing.
+use Prim.Native.Nat.{ℕ, _+_, _-_, _^_, _≤_, _<_}
+use mathlib.Core.List.{List}
+use lib.IntN.{pos, _+ℤ_}
+use lib.Signed.{mag}
+use lib.ListN.{length, drop}
+use Rattle.classes.specs.Calendar.{daysInYear}
+use Rattle.projection.specs.declared.Region.{Region}
+use Rattle.projection.specs.Projection.{projectedCarbon, projectedRegion, SmallRegion}
+use Rattle.figures.specs.declared.Figures.{Figures}
+use Rattle.figures.specs.Year.{Terms, Year}
+use Rattle.figures.specs.Figures.{referenceLevel, stockChangeEmissions, figuresOf}
+use Rattle.figures.specs.Reckoning.{yearFigures}
+use Rattle.dossier.specs.Records.{Due}
+use Rattle.dossier.specs.Reader.{Judged, refused, accepted, Reader, _>>=_, give}
+use Rattle.dossier.specs.Judging.{year}
+use Rattle.years.specs.Answers.{Summary, summarizedYear}
+use Rattle.reckoning.specs.declared.State.{State}
+use Rattle.reckoning.specs.declared.Advanced.{Advanced}
+use Rattle.reckoning.specs.declared.StepAnswer.{StepAnswer}
+use Rattle.reckoning.specs.declared.Stepped.{Stepped}
+
+-- an accepted year: the next is due, one fewer is left, both regions are projected, and the total grows by what is credited
+unfoldable pub afterFigures : List ℕ → Figures → State → State
+afterFigures matrix figures state = record {
+  year = state .year + 1;
+  left = state .left - 1;
+  project = projectedRegion matrix (state .project);
+  belt = projectedRegion matrix (state .belt);
+  total = record { 0 = state .total .0 +ℤ figures .credited .0 };
+}
+
+unfoldable pub yearAdvanced : Terms → Year → State → Advanced
+yearAdvanced t y state = record { state = afterFigures (t .matrix) (yearFigures t y (state .project) (state .belt)) state; figures = yearFigures t y (state .project) (state .belt) }
+
+-- ---- the same from a year's summary, by tables of factors
+unfoldable pub summaryFigures : (ℕ → ℕ → ℕ) → List ℕ → Summary → (project belt : Region) → Figures
+summaryFigures factor matrix m project belt =
+    figuresOf (pos (referenceLevel (projectedCarbon factor (project .areas) matrix) (m .days) (daysInYear (m .year)))) (pos (stockChangeEmissions (m .project .0))) (m .activity .0) (pos (stockChangeEmissions (m .belt .0)))
+    (pos (referenceLevel (projectedCarbon factor (belt .areas) matrix) (m .days) (daysInYear (m .year))))
+
+unfoldable pub summaryAdvanced : (ℕ → ℕ → ℕ) → List ℕ → Summary → State → Advanced
+summaryAdvanced factor matrix m state = record {
+  state = afterFigures matrix (summaryFigures factor matrix m (state .project) (state .belt)) state;
+  figures = summaryFigures factor matrix m (state .project) (state .belt);
+}
+
+-- the year that is due at the bytes' start, reckoned
+unfoldable pub steppedYear : (factor counted : ℕ → ℕ → ℕ) → List ℕ → Due → State → Reader Advanced
+steppedYear factor counted matrix due state = do
+  m ← summarizedYear counted due
+  give (summaryAdvanced factor matrix m state)
+
+-- what is due in a state, with the starting areas of project and belt
+unfoldable pub dueOf : State → ℕ → ℕ → Due
+dueOf state project belt = record { nextYear = state .year; left = state .left; projectTotal = project; beltTotal = belt }
+
+-- ---- what a step answers; a refusal leaves the state as it was
+abbrev pub stepJudged : List ℕ → Stepped → StepAnswer → Judged Advanced
+stepJudged s r (StepAnswer.Next next) = accepted (r .advanced) (drop next s)
+stepJudged s r (StepAnswer.Refused n) = refused n
+
+abbrev pub stepSays : List ℕ → Stepped → Judged Advanced
+stepSays s r = stepJudged s r (r .answer)
+
+abbrev pub stepFacts : List ℕ → StepAnswer → Type 0
+stepFacts s (StepAnswer.Next next) = next ≤ length s
+stepFacts s (StepAnswer.Refused n) = Unit {0}
+
+abbrev pub stepInside : List ℕ → Stepped → Type 0
+stepInside s r = stepFacts s (r .answer)
+
+-- ranges in which every sum fits 64 bits
+pub record SmallState (state : State) : Type 0 where
+  pub year : state .year < 65536
+  pub project : SmallRegion (state .project)
+  pub belt : SmallRegion (state .belt)
+  pub total : mag (state .total .0) < 2 ^ 61

@@ -1,0 +1,145 @@
+// One year's reckoning over the bytes of a dossier or of a year piece.
+use classes::AreaUnits;
+use classes::CarbonUnits;
+use classes::Grams;
+use figures::Figures;
+use figures::YearCarbon;
+use projection::Region;
+use years::YearAnswer;
+ghost use mathlib.Core.Path.{_≡_};
+ghost use Prim.Native.Nat.{_≤_};
+ghost use lib.ListN.{length, drop};
+ghost use Rattle.classes.specs.Matrix.{entry};
+ghost use Rattle.classes.specs.Calendar.{daysInYear};
+ghost use Rattle.projection.specs.Projection.{RowsWithin, FactorsFit};
+ghost use Rattle.figures.specs.Ranges.{SmallCarbon, SmallGrams};
+ghost use Rattle.reckoning.specs.Step.{summaryAdvanced, dueOf, steppedYear, stepSays, stepInside, SmallState};
+
+// What years change: the year that is due, the years left, both regions and the total credited.
+pub struct State {
+    pub year: u64,
+    pub left: u64,
+    pub project: Region,
+    pub belt: Region,
+    pub total: Grams,
+}
+
+// The state after a year, and the year's figures.
+pub struct Advanced {
+    pub state: State,
+    pub figures: Figures,
+}
+
+pub enum StepAnswer {
+    Next(usize),
+    Refused(u8),
+}
+
+// A step's answer. Where it is a refusal, what stands beside it has no meaning.
+pub struct Stepped {
+    pub answer: StepAnswer,
+    pub advanced: Advanced,
+}
+
+// A year of d = days reckoned from the carbon of its tables and the emissions of its records.
+fn advance(
+    state: State,
+    days: u64,
+    project: CarbonUnits,
+    belt: CarbonUnits,
+    activity: Grams,
+    matrix: &[u64; 144],
+    factors: &[u64; 144],
+) -> Advanced
+    requires { ⌜ SmallState state ⌝ }
+    requires { ⌜ RowsWithin (now matrix) ⌝ }
+    requires { ⌜ FactorsFit (now factors) ⌝ }
+    requires { ⌜ (SmallCarbon (project .0)) × (SmallCarbon (belt .0)) × (SmallGrams (activity .0)) × (1 ≤ state .left) × (days ≤ daysInYear (state .year)) ⌝ }
+    ensures { λ r. ⌜ r ≡ summaryAdvanced (entry (now (factors .entry))) (now (matrix .entry)) (record { year = state .year; days = days; project = project; belt = belt; activity = activity }) state ⌝ }
+{
+    let region = state.project;
+    let after = region.projected(matrix, factors);
+    let carbon = after.carbon;
+    let next = after.region;
+    let belt_region = state.belt;
+    let belt_after = belt_region.projected(matrix, factors);
+    let belt_carbon = belt_after.carbon;
+    let belt_next = belt_after.region;
+    let of_project = YearCarbon {
+        projected: carbon,
+        monitored: project,
+    };
+    let of_belt = YearCarbon {
+        projected: belt_carbon,
+        monitored: belt,
+    };
+    let yeardays = classes::days_in_year(state.year);
+    let figures = figures::year_figures(of_project, of_belt, activity, days, yeardays);
+    let credited = figures.credited;
+    let total = state.total;
+    let grown = total.plus(credited);
+    Advanced {
+        state: State {
+            year: state.year + 1,
+            left: state.left - 1,
+            project: next,
+            belt: belt_next,
+            total: grown,
+        },
+        figures,
+    }
+}
+
+fn no_figures() -> Figures {
+    Figures {
+        reference: Grams(0),
+        project: Grams(0),
+        activity: Grams(0),
+        belt: Grams(0),
+        belt_reference: Grams(0),
+        displaced: Grams(0),
+        reduction: Grams(0),
+        credited: Grams(0),
+    }
+}
+
+// The year that is due, from at: start and belt are the starting areas, factors and counted the emission factors of projected and of monitored conversions.
+pub fn step(
+    s: &[u8],
+    at: usize,
+    state: State,
+    start: AreaUnits,
+    belt: AreaUnits,
+    matrix: &[u64; 144],
+    factors: &[u64; 144],
+    counted: &[u64; 144],
+) -> Stepped
+    requires { ⌜ (at ≤ length (now s)) × (start .0 ≤ 1000000000000) × (belt .0 ≤ 1000000000000) ⌝ }
+    requires { ⌜ SmallState state ⌝ }
+    requires { ⌜ RowsWithin (now matrix) ⌝ }
+    requires { ⌜ FactorsFit (now factors) ⌝ }
+    requires { ⌜ FactorsFit (now counted) ⌝ }
+    ensures { λ r. ⌜ stepSays (now (s .entry)) r ≡ steppedYear (entry (now (factors .entry))) (entry (now (counted .entry))) (now (matrix .entry)) (dueOf state (start .0) (belt .0)) state (drop at (now (s .entry))) ⌝ }
+    ensures { λ r. ⌜ stepInside (now (s .entry)) r ⌝ }
+{
+    match years::read_year(s, at, state.year, state.left, start, belt, counted) {
+        YearAnswer::Refused(n) => Stepped {
+            answer: StepAnswer::Refused(n),
+            advanced: Advanced {
+                state,
+                figures: no_figures(),
+            },
+        },
+        YearAnswer::Read {
+            year: _,
+            days,
+            project,
+            belt: belt_carbon,
+            activity,
+            next,
+        } => Stepped {
+            answer: StepAnswer::Next(next),
+            advanced: advance(state, days, project, belt_carbon, activity, matrix, factors),
+        },
+    }
+}

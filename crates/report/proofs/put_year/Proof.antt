@@ -1,0 +1,44 @@
+-- `report::put_year` meets its contract: four figures, and right after them the other four.
+-- Assumes nothing.
+use mathlib.Core.Path.{_≡_, _∙_}
+use mathlib.Core.List.{[], _∷_}
+use Prim.Native.Nat.{_+_, _^_, _<_}
+use native.Mathlib.Omega.{arith}
+use lib.IntN.{ℤ}
+use lib.Signed.{mag}
+use mir.Syntax.{w64}
+use mir.Val.{toZ, ofZ}
+use mir.Facts.{toZ-ofZ}
+use borrow.Author.Needs.{needs, sfits-of}
+use Rattle.report.proofs.ReportLaws.{stored-more}
+use Rattle.report.proofs.put_year.Statement.{statement}
+use Rattle.report.proofs.put_year.Tie as tie
+
+-- a signed number that fits is read as it stands
+read : (z : ℤ) → mag z < 2 ^ 63 → toZ w64 (ofZ w64 z) ≡ z
+read z h = toZ-ofZ (sfits-of h)
+
+put-four-requires : tie.Need-put-four-requires
+put-four-requires c κs = search needs
+
+add-put-four : tie.Need-add-put-four
+add-put-four c = search needs
+
+put-four-requires-2 : tie.Need-put-four-requires-2
+put-four-requires-2 c κs = omega (arith, c .before .before .before .before .before .before .before .put-four .kept .0, c .before .before .before .before .before .before .before .before .before .before .before .before .before .before .pre)
+
+same-length : tie.Need-same-length
+same-length c = search needs
+
+returns : tie.Need-returns
+returns c =
+    let start = c .before .before .before .before .before .before .before .before .before .before .before .before .before .before .before .before .before in
+    let t = c .before .before .before .before .before .before .before .before .before .before .before .before .before .before .struct-told .given in
+    let f = start .args .f in
+    c .before .before .put-four2 .ensures
+    ∙ rw (c .before .before .before .before .before .before .before .before .before .before .put-four .ensures, read (f .reference .0) (t .0 .1 .1 .0 .1), read (f .project .0) (t .1 .0 .1 .1 .0 .1), read (f .activity .0) (t .1 .1 .0 .1 .1 .0 .1), read (f .belt .0) (t .1 .1 .1 .0 .1 .1 .0 .1), read (f .«belt_reference» .0) (t .1 .1 .1 .1 .0 .1 .1 .0 .1), read (f .displaced .0) (t .1 .1 .1 .1 .1 .0 .1 .1 .0 .1), read (f .reduction .0) (t .1 .1 .1 .1 .1 .1 .0 .1 .1 .0 .1), read (f .credited .0) (t .1 .1 .1 .1 .1 .1 .1 .0 .1 .1 .0 .1))
+    (stored-more (f .reference .0 ∷ f .project .0 ∷ f .activity .0 ∷ f .belt .0 ∷ []) (f .«belt_reference» .0 ∷ f .displaced .0 ∷ f .reduction .0 ∷ f .credited .0 ∷ []) (start .args .buffer .now) (start .args .at) (start .args .at + 32) (omega arith))
+
+pub put-year-spec : {M : Type 1} → statement M
+put-year-spec =
+    tie.close (tie.spec put-four-requires add-put-four put-four-requires-2 same-length returns)
