@@ -1,0 +1,5 @@
+pub mod CallList
+pub mod Account
+pub mod Promises
+pub mod DossierPromises
+pub mod Accepted

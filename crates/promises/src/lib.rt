@@ -1,0 +1,1 @@
+// What is promised of all calls together: definitions in specs/, theorems in proofs/.

@@ -1,0 +1,146 @@
+-- What holds of every ledger that the calls hand back, the empty one of a refused opening too.
+-- Assumes nothing.
+use Prim.Native.Nat.{ℕ, _+_, _*_, _^_, _≤_, _<_}
+use mathlib.Core.Path.{_≡_, refl, _∙_}
+use mathlib.Core.Bool.{Bool, true, false}
+use mathlib.Core.Option.{Option, none, some}
+use mathlib.Core.List.{List}
+use native.Mathlib.Nat.{le-of-eq}
+use native.Mathlib.Omega.{arith}
+use lib.Dec.{eqb}
+use lib.Signed.{mag}
+use lib.ListN.{length, getD, set, replicate, length-set, length-replicate, getD-replicate}
+use lib.Seq.{getD-set-same, getD-set-other}
+use borrow.Author.Tests.{eqb-true, eqb-false}
+use Rattle.arithmetic.specs.Sum.{sum}
+use Rattle.arithmetic.proofs.SumLaws.{sum-cong, sum-const, length-listed}
+use Rattle.arithmetic.proofs.IntegerLaws.{mag-plus}
+use Rattle.classes.specs.Classes.{classes}
+use Rattle.classes.specs.Matrix.{entry, RowsSum, optionOneMatrix}
+use Rattle.classes.proofs.MatrixLaws.{option-one-rows}
+use Rattle.projection.specs.Projection.{RowsWithin}
+use Rattle.figures.specs.declared.Figures.{Figures}
+use Rattle.figures.specs.Year.{Year}
+use Rattle.figures.specs.Reckoning.{yearFigures}
+use Rattle.figures.proofs.FiguresLaws.{FiguresSmall}
+use Rattle.wire.specs.Bytes.{Bytes, total}
+use Rattle.dossier.specs.Records.{Opening, OpeningInRange, MatrixUnder, DueInRange, YearInRange}
+use Rattle.dossier.specs.Reader.{Judged, refused, accepted}
+use Rattle.dossier.specs.Judging.{openingPiece, yearPiece}
+use Rattle.dossier.proofs.WellFormed.{opening-accepted, year-accepted}
+use Rattle.opening.specs.Answers.{matrixInUse}
+use Rattle.reckoning.specs.Step.{yearAdvanced, afterFigures, SmallState}
+use Rattle.reckoner.specs.declared.Ledger.{Ledger}
+use Rattle.reckoner.specs.Ledger.{openedWith, noFigures, emptyLedger, openedLedger, termsOf, dueOf, givenYear}
+use Rattle.reckoner.specs.Calls.{openJudged, openCall, yearJudged, yearCall, HandedBack, opened, given}
+use Rattle.reckoner.proofs.YearRanges.{figures-range}
+use Rattle.reckoner.proofs.RegionKept.{RegionKept, zero-region, opened-region, projected-kept}
+
+pub record LedgerKept (l : Ledger) : Type 0 where
+  pub count : l .given + l .state .left ≤ 20
+  pub years : l .state .year + l .state .left < 65536
+  pub project : RegionKept (l .start .0) (l .state .project)
+  pub belt : RegionKept (l .beltstart .0) (l .state .belt)
+  pub total : mag (l .state .total .0) ≤ 2 ^ 56 * l .given
+  pub rows : RowsWithin (l .matrix)
+  pub places : length (l .matrix) ≡ 144
+  pub twenty : length (l .figures) ≡ 20
+  pub figures : (k : ℕ) → k < l .given → FiguresSmall (getD (l .figures) k noFigures)
+
+-- the ranges that the code asks of a state, and what is due can be said in a year piece
+pub state-kept : (l : Ledger) → LedgerKept l → SmallState (l .state)
+state-kept l k = record { year = omega arith; project = omega (arith, k .project); belt = omega (arith, k .belt); total = omega (arith, k .total, k .count) }
+
+pub due-kept : (l : Ledger) → LedgerKept l → DueInRange (dueOf l)
+unfolding dueOf
+due-kept l k = record { nextYear = omega arith; projectTotal = k .project .small; beltTotal = k .belt .small }
+
+-- ---- the empty ledger
+zero-row : (i : ℕ) → i < classes → sum classes (entry (replicate 144 0) i) ≡ 0
+zero-row i h = sum-cong classes (entry (replicate 144 0) i) (λ j. 0) (λ j k. getD-replicate 144 (12 * i + j) 0 0 (omega arith)) ∙ sum-const classes 0
+
+pub empty-kept : LedgerKept emptyLedger
+unfolding emptyLedger openedWith
+empty-kept = record {
+  count = omega arith;
+  years = omega arith;
+  project = zero-region;
+  belt = zero-region;
+  total = omega arith;
+  rows = λ i h. omega (arith, zero-row i h);
+  places = length-replicate {A = ℕ} 144 0;
+  twenty = length-replicate 20 noFigures;
+  figures = λ k h. absurd (omega arith);
+}
+
+-- ---- an opened ledger
+-- the matrix in use: each of its rows sums to 1,000,000
+pub in-use-rows : (option : ℕ) (m : Option (List ℕ)) → MatrixUnder option m → RowsSum (matrixInUse m)
+in-use-rows option none h = option-one-rows
+in-use-rows option (some matrix) h = h .1 .rows
+
+in-use-places : (option : ℕ) (m : Option (List ℕ)) → MatrixUnder option m → length (matrixInUse m) ≡ 144
+unfolding optionOneMatrix
+in-use-places option none h = length-listed 144 _
+in-use-places option (some matrix) h = h .1 .count
+
+pub opened-kept : (o : Opening) → OpeningInRange o → LedgerKept (openedLedger o)
+unfolding openedLedger openedWith
+opened-kept o h = record {
+  count = omega (arith, h .head .count);
+  years = omega (arith, h .head .firstYears, h .head .count);
+  project = opened-region (o .projectAreas) (h .projectAreas .twelve) (h .projectAreas .totals .most);
+  belt = opened-region (o .beltAreas) (h .beltAreas .twelve) (h .beltAreas .totals .most);
+  total = omega arith;
+  rows = λ i k. le-of-eq (in-use-rows (o .head .option) (o .matrix) (h .matrix) i k);
+  places = in-use-places (o .head .option) (o .matrix) (h .matrix);
+  twenty = length-replicate 20 noFigures;
+  figures = λ k i. absurd (omega arith);
+}
+
+-- ---- a year given
+pub given-kept : (l : Ledger) → LedgerKept l → (y : Year) → YearInRange (dueOf l) y → LedgerKept (givenYear y l)
+unfolding givenYear yearAdvanced afterFigures termsOf dueOf
+given-kept l k y h = record {
+  count = omega (arith, k .count, h .left);
+  years = omega (arith, k .years, h .left);
+  project = projected-kept (l .matrix) (k .rows) (l .start .0) (l .state .project) (k .project);
+  belt = projected-kept (l .matrix) (k .rows) (l .beltstart .0) (l .state .belt) (k .belt);
+  total = omega (arith, k .total, small .credited, mag-plus (l .state .total .0) (f .credited .0));
+  rows = k .rows;
+  places = k .places;
+  twenty = simp length-set (k .twenty);
+  figures = λ i g. go i g (eqb i (l .given)) refl;
+}
+  where
+    f : Figures
+    f = yearFigures (termsOf l) y (l .state .project) (l .state .belt)
+
+    small : FiguresSmall f
+    small = figures-range (l .option) (l .matrix) (k .rows) (dueOf l) (due-kept l k) y h (l .state .project) (l .state .belt) (omega (arith, k .project)) (omega (arith, k .belt))
+
+    go : (i : ℕ) → i < l .given + 1 → (b : Bool) → eqb i (l .given) ≡ b → FiguresSmall (getD (set (l .figures) (l .given) f) i noFigures)
+    go i g true e = rw (eqb-true i (l .given) e, getD-set-same (l .figures) (l .given) f noFigures (omega (arith, k .count, h .left, k .twenty))) small
+    go i g false e = rw (getD-set-other (l .figures) (l .given) i f noFigures (eqb-false i (l .given) e)) (k .figures i (omega (arith, eqb-false i (l .given) e)))
+
+-- ---- the calls
+pub open-kept : (piece : List ℕ) → Bytes piece → LedgerKept (openCall piece .ledger)
+unfolding openCall
+open-kept piece b = go (openingPiece piece) refl
+  where
+    go : (j : Judged Opening) → openingPiece piece ≡ j → LedgerKept (openJudged j .ledger)
+    go (refused n) e = empty-kept
+    go (accepted o rest) e = opened-kept o (opening-accepted .sound piece b o rest e .0)
+
+pub year-kept : (l : Ledger) → LedgerKept l → (piece : List ℕ) → Bytes piece → LedgerKept (yearCall l piece .ledger)
+unfolding yearCall
+year-kept l k piece b = go (yearPiece (dueOf l) piece) refl
+  where
+    go : (j : Judged Year) → yearPiece (dueOf l) piece ≡ j → LedgerKept (yearJudged l j .ledger)
+    go (refused n) e = k
+    go (accepted y rest) e = given-kept l k y (year-accepted (dueOf l) (due-kept l k) .sound piece b y rest e .0)
+
+-- every ledger that the calls hand back
+pub handed-kept : {l : Ledger} → HandedBack l → LedgerKept l
+handed-kept (opened piece b) = open-kept piece b
+handed-kept (given {l} h piece b) = year-kept l (handed-kept h) piece b

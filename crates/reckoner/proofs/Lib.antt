@@ -1,0 +1,5 @@
+pub mod YearRanges
+pub mod RegionKept
+pub mod Invariant
+pub mod OpenLaws
+pub mod YearLaws

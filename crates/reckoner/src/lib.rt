@@ -1,0 +1,260 @@
+// The reckoner's public calls: a ledger that is opened, given years and closed, and the whole reckoning of a dossier.
+use classes::AreaUnits;
+use classes::Grams;
+use figures::Figures;
+use opening::OpeningAnswer;
+use projection::Region;
+use reckoning::Advanced;
+use reckoning::State;
+use reckoning::StepAnswer;
+ghost use mathlib.Core.Path.{_≡_};
+ghost use Prim.Native.Nat.{_+_, _*_, _≤_, _<_};
+ghost use lib.ListN.{length};
+ghost use Rattle.dossier.specs.Judging.{callNumber};
+ghost use Rattle.reckoner.specs.Ledger.{noFigures, emptyLedger, openedWith, withAdvanced};
+ghost use Rattle.reckoner.specs.Calls.{openCall, yearCall, closeCall, closedBuffer, HandedBack, reckonBuffer};
+
+// A ledger: what its opening settled, the state that years change, and the figures of the years given.
+pub struct Ledger {
+    option: u64,
+    given: u64,
+    start: AreaUnits,
+    beltstart: AreaUnits,
+    state: State,
+    matrix: [u64; 144],
+    figures: [Figures; 20],
+}
+
+pub enum Answer {
+    Accepted,
+    Refused(u8),
+}
+
+// The ledger handed back, and the answer.
+pub struct Step {
+    pub ledger: Ledger,
+    pub answer: Answer,
+}
+
+fn no_figures() -> Figures
+    ensures { λ r. ⌜ r ≡ noFigures ⌝ }
+{
+    Figures {
+        reference: Grams(0),
+        project: Grams(0),
+        activity: Grams(0),
+        belt: Grams(0),
+        belt_reference: Grams(0),
+        displaced: Grams(0),
+        reduction: Grams(0),
+        credited: Grams(0),
+    }
+}
+
+// A region at inception.
+fn region(areas: [AreaUnits; 12]) -> Region
+    ensures { λ r. ⌜ r ≡ record { areas = areas; balance = record { 0 = 0 } } ⌝ }
+{
+    Region {
+        areas,
+        balance: AreaUnits(0),
+    }
+}
+
+// A ledger with no year given.
+fn new_ledger(
+    option: u64,
+    first: u64,
+    years: u64,
+    start: AreaUnits,
+    beltstart: AreaUnits,
+    project: [AreaUnits; 12],
+    belt: [AreaUnits; 12],
+    matrix: [u64; 144],
+) -> Ledger
+    ensures { λ r. ⌜ r ≡ openedWith option first years start beltstart project belt matrix ⌝ }
+{
+    let at_inception = region(project);
+    let belt_at_inception = region(belt);
+    let none = no_figures();
+    Ledger {
+        option,
+        given: 0,
+        start,
+        beltstart,
+        state: State {
+            year: first,
+            left: years,
+            project: at_inception,
+            belt: belt_at_inception,
+            total: Grams(0),
+        },
+        matrix,
+        figures: [none; 20],
+    }
+}
+
+fn empty_ledger() -> Ledger
+    ensures { λ r. ⌜ r ≡ emptyLedger ⌝ }
+{
+    new_ledger(
+        0,
+        0,
+        0,
+        AreaUnits(0),
+        AreaUnits(0),
+        [AreaUnits(0); 12],
+        [AreaUnits(0); 12],
+        [0u64; 144],
+    )
+}
+
+// A refused opening hands back an empty ledger.
+fn refused_opening(n: u8) -> Step
+    ensures { λ r. ⌜ r ≡ record { ledger = emptyLedger; answer = Answer.Refused n } ⌝ }
+{
+    Step {
+        ledger: empty_ledger(),
+        answer: Answer::Refused(n),
+    }
+}
+
+// The ledger with a year more.
+fn with_year(mut ledger: Ledger, advanced: Advanced) -> Ledger
+    requires { ⌜ ledger .given < 20 ⌝ }
+    ensures { λ r. ⌜ r ≡ withAdvanced ledger advanced ⌝ }
+{
+    let k = ledger.given as usize;
+    let figures = advanced.figures;
+    let state = advanced.state;
+    ledger.figures[k] = figures;
+    ledger.state = state;
+    ledger.given = ledger.given + 1;
+    ledger
+}
+
+impl Ledger {
+    // Opened from HD to DA, or to MP under Option 2; an empty ledger where that is refused.
+    pub fn open(piece: &[u8]) -> Step
+        ensures { λ r. ⌜ r ≡ openCall (now (piece .entry)) ⌝ }
+        ensures { λ r. ⌜ HandedBack (r .ledger) ⌝ }
+    {
+        let opened = opening::read_opening(piece, 0);
+        let answer = opened.answer;
+        let project = opened.project;
+        let belt = opened.belt;
+        let matrix = opened.matrix;
+        match answer {
+            OpeningAnswer::Refused(n) => refused_opening(n),
+            OpeningAnswer::Read {
+                option,
+                first,
+                years,
+                project: start,
+                belt: beltstart,
+                next,
+            } => {
+                let left = piece.len() - next;
+                if left == 1 {
+                    return refused_opening(1);
+                }
+                if 0 < left {
+                    return refused_opening(2);
+                }
+                Step {
+                    ledger: new_ledger(
+                        option,
+                        first,
+                        years,
+                        start,
+                        beltstart,
+                        project,
+                        belt,
+                        matrix,
+                    ),
+                    answer: Answer::Accepted,
+                }
+            }
+        }
+    }
+
+    // Given one year, YR to its last activity record; the same ledger where that is refused.
+    pub fn year(self, piece: &[u8]) -> Step
+        requires { ⌜ HandedBack self ⌝ }
+        ensures { λ r. ⌜ r ≡ yearCall self (now (piece .entry)) ⌝ }
+        ensures { λ r. ⌜ HandedBack (r .ledger) ⌝ }
+    {
+        let state = self.state;
+        let start = self.start;
+        let beltstart = self.beltstart;
+        let matrix = self.matrix;
+        let stocks = classes::carbon_stocks();
+        let factors = classes::emission_factors(&stocks);
+        let counted = figures::counted_factors(self.option, &factors);
+        let stepped = reckoning::step(
+            piece,
+            0,
+            state,
+            start,
+            beltstart,
+            &matrix,
+            &factors,
+            &counted,
+        );
+        let answer = stepped.answer;
+        let advanced = stepped.advanced;
+        match answer {
+            StepAnswer::Refused(n) => Step {
+                ledger: self,
+                answer: Answer::Refused(n),
+            },
+            StepAnswer::Next(next) => {
+                let left = piece.len() - next;
+                if left == 1 {
+                    return Step {
+                        ledger: self,
+                        answer: Answer::Refused(1),
+                    };
+                }
+                if 0 < left {
+                    return Step {
+                        ledger: self,
+                        answer: Answer::Refused(2),
+                    };
+                }
+                Step {
+                    ledger: with_year(self, advanced),
+                    answer: Answer::Accepted,
+                }
+            }
+        }
+    }
+
+    // The report of the years given so far, written where the buffer is long enough.
+    pub fn close(self, result: &mut [u8]) -> Step
+        requires { ⌜ HandedBack self ⌝ }
+        ensures { λ r. ⌜ r ≡ closeCall self (length (now (result .entry))) ⌝ }
+        ensures { λ r. ⌜ now (result .exit) ≡ closedBuffer self (now (result .entry)) ⌝ }
+        ensures { λ r. ⌜ HandedBack (r .ledger) ⌝ }
+    {
+        let given = self.given;
+        if result.len() < 64 * (given as usize) + 32 {
+            return Step {
+                ledger: self,
+                answer: Answer::Refused(10),
+            };
+        }
+        let figures = self.figures;
+        let state = self.state;
+        let total = state.total;
+        let project = state.project;
+        let balance = project.balance;
+        let belt = state.belt;
+        let belt_balance = belt.balance;
+        report::write_report(figures, given, total, balance, belt_balance, result);
+        Step {
+            ledger: self,
+            answer: Answer::Accepted,
+        }
+    }
+}

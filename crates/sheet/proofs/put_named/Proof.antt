@@ -1,0 +1,22 @@
+-- `sheet::put_named` meets its contract: the word and then the figures.
+-- Assumes nothing.
+use native.Mathlib.Omega.{arith}
+use borrow.Author.Needs.{needs}
+use Rattle.sheet.proofs.PutLaws.{put-then}
+use Rattle.sheet.proofs.put_named.Statement.{statement}
+use Rattle.sheet.proofs.put_named.Tie as tie
+
+put-text-requires : tie.Need-put-text-requires
+put-text-requires c κs = search needs
+
+put-spaced-requires : tie.Need-put-spaced-requires
+put-spaced-requires c κs = (omega arith, omega arith)
+
+same-length : tie.Need-same-length
+same-length c = search needs
+
+returns : tie.Need-returns
+returns c = put-then (c .before .before .before .before .before .before .put-text .ensures) (c .before .before .put-spaced .ensures)
+
+pub put-named-spec : {M : Type 1} → statement M
+put-named-spec = tie.close (tie.spec put-text-requires put-spaced-requires same-length returns)

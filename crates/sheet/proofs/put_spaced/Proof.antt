@@ -1,0 +1,84 @@
+-- `sheet::put_spaced` meets its contract: writing the figures left from the place reached gives what writing all of them gives.
+-- Assumes nothing.
+use mathlib.Core.Path.{_≡_}
+use mathlib.Core.List.{[], _∷_, _++_}
+use Prim.Native.Nat.{_+_, _-_, _*_, _≤_}
+use native.Mathlib.Omega.{arith}
+use lib.ListN.{length}
+use borrow.Author.Needs.{needs}
+use Rattle.wire.specs.Bytes.{fieldAt}
+use Rattle.wire.specs.Signed.{signed}
+use Rattle.sheet.specs.Decimal.{decimalOf}
+use Rattle.sheet.specs.Sheet.{spaced}
+use Rattle.sheet.proofs.PutLaws.{Rest, rest-all, rest-less, rest-none, rest-length}
+use Rattle.sheet.proofs.SheetLaws.{spaced-none, spaced-more, length-figure}
+use Rattle.sheet.proofs.put_spaced.Statement.{statement}
+use Rattle.sheet.proofs.put_spaced.Tie as tie
+
+abbrev Inv-loop : tie.InvT-loop
+Inv-loop out₀ at k result from left₀ place₀ source₀ out left place source = (source + 8 * left ≤ length result) × (place + 21 * left ≤ length out) × Rest out₀ at (spaced k result from) out place (spaced left result source)
+
+abbrev μ-loop : tie.MeasureT-loop
+μ-loop out₀ at k result from left₀ place₀ source₀ out left place source = left
+
+-- the figures left, the first apart
+next : (c : tie.In-loop Inv-loop μ-loop)
+    → let given = c .before .before .before .before .args in
+    let at = c .before .loop in
+    Rest (given .out .now) (given .at) (spaced (given .k) (given .result .now) (given .from)) (at .out) (at .place)
+    ((32 ∷ []) ++ (decimalOf (signed (fieldAt 8 (given .result .now) (at .source))) ++ spaced (at .left - 1) (given .result .now) (at .source + 8)))
+next c =
+    let result = c .before .before .before .before .args .result .now in
+    rw (spaced-more (c .before .loop .left) result (c .before .loop .source) (omega arith)) at (c .before .loop .inv .2)
+
+loop-holds : tie.Need-loop-holds Inv-loop μ-loop
+loop-holds c = (omega arith, omega arith, rest-all _ _ _)
+
+put-byte-requires : tie.Need-put-byte-requires Inv-loop μ-loop
+put-byte-requires c κs = omega arith
+
+field64-requires : tie.Need-field64-requires Inv-loop μ-loop
+field64-requires c κs = search needs
+
+put-figure-requires : tie.Need-put-figure-requires Inv-loop μ-loop
+put-figure-requires c κs = omega arith
+
+add-source : tie.Need-add-source Inv-loop μ-loop
+add-source c = search needs
+
+sub-left : tie.Need-sub-left Inv-loop μ-loop
+sub-left c = search needs
+
+loop-less : tie.Need-loop-less Inv-loop μ-loop
+loop-less c = search needs
+
+loop-again : tie.Need-loop-again Inv-loop μ-loop
+loop-again c =
+    let space = c .before .before .before .before .before .before .before .put-byte .ensures in
+    let figure = rw (c .before .before .before .before .field64 .ensures) at (c .before .before .put-figure .ensures) in
+    (omega arith, omega (arith, length-figure (c .before .before .before .before .field64 .result)), rest-less (rest-less (next (c .before .before .before .before .before .before .before .before .before)) space) figure)
+
+same-length : tie.Need-same-length Inv-loop μ-loop
+same-length c = rest-length (c .before .loop .inv .2)
+
+returns : tie.Need-returns Inv-loop μ-loop
+returns c =
+    let none : c .before .loop .left ≡ 0 = omega arith in
+    rest-none (rw (none, spaced-none) at (c .before .loop .inv .2))
+
+pub put-spaced-spec : {M : Type 1} → statement M
+put-spaced-spec =
+    tie.close
+    (tie.spec
+    Inv-loop
+    μ-loop
+    loop-holds
+    put-byte-requires
+    field64-requires
+    put-figure-requires
+    add-source
+    sub-left
+    loop-less
+    loop-again
+    same-length
+    returns)

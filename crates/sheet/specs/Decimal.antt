@@ -1,0 +1,21 @@
+-- Decimal figures. In proofs/DecimalLaws `decimal-is` is the equation without the count of digits, and `value-decimal` reads them back.
+-- Assumes nothing.
+use Prim.Native.Nat.{ℕ, zero, suc, _+_, _/_, _%_}
+use mathlib.Core.Bool.{cond}
+use mathlib.Core.List.{List, [], _∷_, _++_}
+use lib.Dec.{ltb}
+use lib.IntN.{ℤ, pos, negsuc}
+
+-- the digits of a number of at most k + 1 digits, in ASCII, the most significant first
+unfoldable pub digits : ℕ → ℕ → List ℕ
+digits zero n = (48 + n) ∷ []
+digits (suc k) n = cond (ltb n 10) ((48 + n) ∷ []) (digits k (n / 10) ++ ((48 + n % 10) ∷ []))
+
+-- a number below 10^20
+unfoldable pub decimal : ℕ → List ℕ
+decimal n = digits 19 n
+
+-- "a negative figure carries a minus"
+unfoldable pub decimalOf : ℤ → List ℕ
+decimalOf (pos n) = decimal n
+decimalOf (negsuc n) = 45 ∷ decimal (suc n)
