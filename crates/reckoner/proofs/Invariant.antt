@@ -31,7 +31,7 @@ use Rattle.dossier.proofs.WellFormed.{opening-accepted, year-accepted}
 use Rattle.opening.specs.Answers.{matrixInUse}
 use Rattle.reckoning.specs.Step.{yearAdvanced, afterFigures, SmallState}
 use Rattle.reckoner.specs.declared.Ledger.{Ledger}
-use Rattle.reckoner.specs.Ledger.{openedWith, noFigures, emptyLedger, openedLedger, termsOf, dueOf, givenYear}
+use Rattle.reckoner.specs.Ledger.{openedWith, noFigures, emptyLedger, openedLedger, termsOf, dueOf, givenYear, Closable}
 use Rattle.reckoner.specs.Calls.{openJudged, openCall, yearJudged, yearCall, HandedBack, opened, given}
 use Rattle.reckoner.proofs.YearRanges.{figures-range}
 use Rattle.reckoner.proofs.RegionKept.{RegionKept, zero-region, opened-region, projected-kept}
@@ -54,6 +54,9 @@ state-kept l k = record { year = omega arith; project = omega (arith, k .project
 pub due-kept : (l : Ledger) → LedgerKept l → DueInRange (dueOf l)
 unfolding dueOf
 due-kept l k = record { nextYear = omega arith; projectTotal = k .project .small; beltTotal = k .belt .small }
+
+pub closable : (l : Ledger) → LedgerKept l → Closable l
+closable l k = record { years = omega (arith, k .count); balance = omega (arith, k .project); beltBalance = omega (arith, k .belt) }
 
 -- ---- the empty ledger
 zero-row : (i : ℕ) → i < classes → sum classes (entry (replicate 144 0) i) ≡ 0

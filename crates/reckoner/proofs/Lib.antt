@@ -3,3 +3,5 @@ pub mod RegionKept
 pub mod Invariant
 pub mod OpenLaws
 pub mod YearLaws
+pub mod EndLaws
+pub mod ReckonLaws

@@ -79,42 +79,52 @@ left-for due s b y u e = go (eqb (due .left) 0) refl e
     go true f g = absurd (none-left-only s b y u g)
     go false f g = omega (arith, eqb-false (due .left) 0 f)
 
+-- a step of a ledger from a place of the bytes
+module _ (l : Ledger) (stocks factors counted : List ℕ) (es : stocks ≡ carbonStocks) (ef : factors ≡ tableOf (emissionFactor stocks)) (ec : counted ≡ tableOf (countedFactor (l .option) (entry factors)))
+    (s : List ℕ) (at : ℕ) (r : Stepped) (says : stepSays s r ≡ steppedYear (entry factors) (entry counted) (l .matrix) (Step.dueOf (l .state) (l .start .0) (l .beltstart .0)) (l .state) (drop at s)) where
+  in-terms : stepSays s r ≡ after (year (dueOf l) (drop at s)) (λ y. give (yearAdvanced (termsOf l) y (l .state)))
+  unfolding dueOf termsOf Step.dueOf
+  in-terms = says ∙ step-is (termsOf l) factors counted (ef ∙ ap (λ (x : List ℕ). tableOf (emissionFactor x)) es) ec (dueOf l) (l .state) (drop at s)
+
+  pub none-given : (n : ℕ) → r .answer ≡ StepAnswer.Refused n → refused n ≡ year (dueOf l) (drop at s)
+  none-given n e = no-year (year (dueOf l) (drop at s)) (λ y. yearAdvanced (termsOf l) y (l .state)) n (rw e at in-terms)
+
+  pub one-given : (next : ℕ) → r .answer ≡ StepAnswer.Next next → Given (year (dueOf l) (drop at s)) (λ y. yearAdvanced (termsOf l) y (l .state)) (r .advanced) (drop next s)
+  one-given next e = some-year (year (dueOf l) (drop at s)) (λ y. yearAdvanced (termsOf l) y (l .state)) (r .advanced) (drop next s) (rw e at in-terms)
+
+-- a step of a ledger over a whole piece
 module _ (l : Ledger) (stocks factors counted : List ℕ) (es : stocks ≡ carbonStocks) (ef : factors ≡ tableOf (emissionFactor stocks)) (ec : counted ≡ tableOf (countedFactor (l .option) (entry factors)))
     (s : List ℕ) (r : Stepped) (says : stepSays s r ≡ steppedYear (entry factors) (entry counted) (l .matrix) (Step.dueOf (l .state) (l .start .0) (l .beltstart .0)) (l .state) s) where
-  in-terms : stepSays s r ≡ after (year (dueOf l) s) (λ y. give (yearAdvanced (termsOf l) y (l .state)))
-  unfolding dueOf termsOf Step.dueOf
-  in-terms = says ∙ step-is (termsOf l) factors counted (ef ∙ ap (λ (x : List ℕ). tableOf (emissionFactor x)) es) ec (dueOf l) (l .state) s
-
   pub year-no : (n : ℕ) → r .answer ≡ StepAnswer.Refused n → record { ledger = l; answer = Answer.Refused n } ≡ yearCall l s
   unfolding yearCall yearPiece
-  year-no n e = ap (yearJudged l) (bind-no (year (dueOf l)) _ s n (no-year (year (dueOf l) s) (λ y. yearAdvanced (termsOf l) y (l .state)) n (rw e at in-terms)))
+  year-no n e = ap (yearJudged l) (bind-no (year (dueOf l)) _ s n (none-given l stocks factors counted es ef ec s 0 r says n e))
 
   module _ (next : ℕ) (e : r .answer ≡ StepAnswer.Next next) where
-    one-given : Given (year (dueOf l) s) (λ y. yearAdvanced (termsOf l) y (l .state)) (r .advanced) (drop next s)
-    one-given = some-year (year (dueOf l) s) (λ y. yearAdvanced (termsOf l) y (l .state)) (r .advanced) (drop next s) (rw e at in-terms)
+    accepted-year : Given (year (dueOf l) s) (λ y. yearAdvanced (termsOf l) y (l .state)) (r .advanced) (drop next s)
+    accepted-year = one-given l stocks factors counted es ef ec s 0 r says next e
 
     -- a year was left
     pub year-left : Bytes s → 1 ≤ l .state .left
     unfolding dueOf
-    year-left b = left-for (dueOf l) s b (one-given .value) (drop next s) (sym (one-given .judged))
+    year-left b = left-for (dueOf l) s b (accepted-year .value) (drop next s) (sym (accepted-year .judged))
 
-    piece-is : (endOfPiece >> give (one-given .value)) (drop next s) ≡ yearPiece (dueOf l) s
+    piece-is : (endOfPiece >> give (accepted-year .value)) (drop next s) ≡ yearPiece (dueOf l) s
     unfolding yearPiece
-    piece-is = bind-yes (year (dueOf l)) _ s (one-given .value) (drop next s) (one-given .judged)
+    piece-is = bind-yes (year (dueOf l)) _ s (accepted-year .value) (drop next s) (accepted-year .judged)
 
     pub year-lone : length s - next ≡ 1 → record { ledger = l; answer = Answer.Refused 1 } ≡ yearCall l s
     unfolding yearCall
-    year-lone h = ap (yearJudged l) (end-lone (one-given .value) s next h ∙ piece-is)
+    year-lone h = ap (yearJudged l) (end-lone (accepted-year .value) s next h ∙ piece-is)
 
     pub year-beyond : (length s - next ≡ 1 → ⊥) → 0 < length s - next → record { ledger = l; answer = Answer.Refused 2 } ≡ yearCall l s
     unfolding yearCall
-    year-beyond f h = ap (yearJudged l) (end-beyond (one-given .value) s next f h ∙ piece-is)
+    year-beyond f h = ap (yearJudged l) (end-beyond (accepted-year .value) s next f h ∙ piece-is)
 
     pub year-here : length s - next ≤ 0 → (m : Ledger) → m ≡ withAdvanced l (r .advanced) → record { ledger = m; answer = Answer.Accepted } ≡ yearCall l s
     unfolding yearCall givenYear
     year-here h m em =
-        let g : m ≡ givenYear (one-given .value) l = em ∙ ap (withAdvanced l) (one-given .made) in
-        rw g (ap (yearJudged l) (end-here (one-given .value) s next h ∙ piece-is))
+        let g : m ≡ givenYear (accepted-year .value) l = em ∙ ap (withAdvanced l) (accepted-year .made) in
+        rw g (ap (yearJudged l) (end-here (accepted-year .value) s next h ∙ piece-is))
 
 pub year-handed : (l : Ledger) (s : List ℕ) (m : Ledger) (a : Answer) → HandedBack l → Bytes s → record { ledger = m; answer = a } ≡ yearCall l s → HandedBack m
 year-handed l s m a h b e = rw (← ap (λ (x : Step). x .ledger) e) at (given h s b)

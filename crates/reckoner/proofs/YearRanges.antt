@@ -1,6 +1,7 @@
 -- The figures of a year in range are far within 64 bits.
 -- Assumes nothing.
-use Prim.Native.Nat.{ℕ, _-_, _≤_}
+use Prim.Native.Nat.{ℕ, _+_, _-_, _≤_, _<_}
+use mathlib.Core.Path.{_≡_}
 use mathlib.Core.Bool.{Bool, true, false, cond, _||_}
 use mathlib.Core.List.{List, [], _∷_}
 use native.Mathlib.Nat.{le-trans, mul-le-mul-right}
@@ -23,6 +24,7 @@ use Rattle.figures.specs.Figures.{countedFactor}
 use Rattle.figures.specs.Ranges.{SmallCarbon, SmallGrams}
 use Rattle.figures.specs.Reckoning.{regionReference, tableEmissions, yearFigures}
 use Rattle.figures.proofs.FiguresLaws.{FiguresSmall, figures-small, reference-small, emissions-small, monitored-small}
+use Rattle.wire.specs.Bytes.{total}
 use Rattle.dossier.specs.Records.{Due, DueInRange, ConversionsInRange, All, YearInRange}
 use Rattle.dossier.proofs.LoopLaws.{total-entries}
 

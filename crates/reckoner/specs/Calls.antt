@@ -4,14 +4,14 @@ use Prim.Native.Nat.{ℕ, _+_, _*_}
 use mathlib.Core.Path.{_≡_}
 use mathlib.Core.Bool.{cond}
 use mathlib.Core.List.{List, []}
-use lib.Dec.{ltb}
+use lib.Dec.{ltb, eqb}
 use lib.ListN.{length}
 use Rattle.wire.specs.Bytes.{Bytes}
 use Rattle.wire.specs.Signed.{written}
 use Rattle.figures.specs.Year.{Year}
 use Rattle.dossier.specs.Records.{Opening, Dossier}
 use Rattle.dossier.specs.Reader.{Judged, refused, accepted}
-use Rattle.dossier.specs.Judging.{dossier, openingPiece, yearPiece}
+use Rattle.dossier.specs.Judging.{dossier, years, openingPiece, yearPiece, bufferNumber}
 use Rattle.reckoner.specs.declared.Ledger.{Ledger}
 use Rattle.reckoner.specs.declared.Answer.{Answer}
 use Rattle.reckoner.specs.declared.Step.{Step}
@@ -59,3 +59,19 @@ reckonedBuffer (accepted d rest) buffer = closedBuffer (ledgerOf d) buffer
 
 unfoldable pub reckonBuffer : List ℕ → List ℕ → List ℕ
 reckonBuffer s buffer = reckonedBuffer (dossier s) buffer
+
+-- ---- its parts: what a number says of EN; the years that a newly opened ledger has to come, and EN
+abbrev pub endSays : ℕ → Judged (Unit {0})
+endSays n = cond (eqb n 0) (accepted tt []) (refused n)
+
+unfoldable pub yearsToCome : Ledger → List ℕ → Judged (List Year)
+yearsToCome l s = years (l .state .left) (dueOf l) [] s
+
+-- the number, and the buffer afterwards, where the rest of a dossier of n years was judged so; what was read makes a ledger that closes
+abbrev pub thenNumber : {A : Type 0} → ℕ → Judged A → ℕ → ℕ
+thenNumber n (refused m) size = m
+thenNumber n (accepted a rest) size = bufferNumber n size
+
+abbrev pub thenBuffer : {A : Type 0} → (A → Ledger) → Judged A → List ℕ → List ℕ
+thenBuffer made (refused m) buffer = buffer
+thenBuffer made (accepted a rest) buffer = closedBuffer (made a) buffer

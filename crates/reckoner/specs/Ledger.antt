@@ -1,6 +1,7 @@
 -- Document 01, "Calls and sheet": the ledger, what an opening and a year make of it, and what closing reports.
 -- Assumes nothing.
-use Prim.Native.Nat.{ℕ, _+_, _*_}
+use Prim.Native.Nat.{ℕ, _+_, _*_, _^_, _≤_, _<_}
+use mathlib.Core.Path.{_≡_}
 use mathlib.Core.List.{List, [], _∷_, _++_, map}
 use mathlib.Core.Option.{Option, none, some}
 use lib.IntN.{ℤ, pos}
@@ -12,7 +13,7 @@ use Rattle.classes.specs.Matrix.{optionOneMatrix}
 use Rattle.projection.specs.Projection.{openedRegion}
 use Rattle.figures.specs.declared.Figures.{Figures}
 use Rattle.figures.specs.Year.{Terms, Year}
-use Rattle.dossier.specs.Records.{Opening, Due, Dossier}
+use Rattle.dossier.specs.Records.{Opening, OpeningInRange, Due, Dossier}
 use Rattle.opening.specs.Answers.{matrixInUse}
 use Rattle.reckoning.specs.declared.State.{State}
 use Rattle.reckoning.specs.declared.Advanced.{Advanced}
@@ -57,6 +58,12 @@ unfoldable pub openedLedger : Opening → Ledger
 openedLedger o =
     openedWith (o .head .option) (o .head .firstYear) (o .head .years) (record { 0 = total (o .projectAreas) }) (record { 0 = total (o .beltAreas) }) (units (o .projectAreas)) (units (o .beltAreas)) (matrixInUse (o .matrix))
 
+-- so opened from records in range, with no year given yet
+pub record NewlyOpened (l : Ledger) : Type 0 where
+  pub opening : Opening
+  pub inRange : OpeningInRange opening
+  pub made : l ≡ openedLedger opening
+
 -- what its opening settled: the terms of the reckoning, and what is due
 unfoldable pub termsOf : Ledger → Terms
 termsOf l = record { option = l .option; matrix = l .matrix; stocks = carbonStocks }
@@ -82,3 +89,9 @@ ledgerOf d = givenYears (d .years) (openedLedger (d .opening))
 -- what closing reports: the numbers of the years given so far
 unfoldable pub report : Ledger → List ℤ
 report l = reported (l .given) (l .figures) (l .state .total .0) (l .state .project .balance .0) (l .state .belt .balance .0)
+
+-- a ledger whose report fits its places: at most 20 years, balances in 63 bits
+pub record Closable (l : Ledger) : Type 0 where
+  pub years : l .given ≤ 20
+  pub balance : l .state .project .balance .0 < 2 ^ 63
+  pub beltBalance : l .state .belt .balance .0 < 2 ^ 63

@@ -23,3 +23,23 @@ unfolding fieldAt
 field-joined v w s at h =
     let l : length (take w (drop (at + v) s)) ≡ w = length-take-le w (drop (at + v) s) (simp length-drop (omega arith)) in
     rw (take-add v w (drop at s), drop-drop, number-append, l)
+
+-- the same with the place of the second part named
+field-parts : (v w : ℕ) (s : List ℕ) (at next : ℕ) → at + v ≡ next → at + (v + w) ≤ length s → fieldAt (v + w) s at ≡ fieldAt v s at * 256 ^ w + fieldAt w s next
+field-parts v w s at next e h = rw (← e) (field-joined v w s at h)
+
+-- eight bytes, each at its weight
+pub field-eight : (s : List ℕ) (at : ℕ) → at + 8 ≤ length s → (a b c d e f g h : ℕ) → a ≡ fieldAt 1 s at → b ≡ fieldAt 1 s (at + 1) → c ≡ fieldAt 1 s (at + 2) → d ≡ fieldAt 1 s (at + 3)
+    → e ≡ fieldAt 1 s (at + 4) → f ≡ fieldAt 1 s (at + 5) → g ≡ fieldAt 1 s (at + 6) → h ≡ fieldAt 1 s (at + 7)
+    → ((a * 72057594037927936 + b * 281474976710656) + (c * 1099511627776 + d * 4294967296)) + ((e * 16777216 + f * 65536) + (g * 256 + h)) ≡ fieldAt 8 s at
+field-eight s at l a b c d e f g h pa pb pc pd pe pf pg ph =
+    omega (
+      arith,
+      field-parts 4 4 s at (at + 4) (omega arith) (omega arith),
+      field-parts 2 2 s at (at + 2) (omega arith) (omega arith),
+      field-parts 2 2 s (at + 4) (at + 6) (omega arith) (omega arith),
+      field-parts 1 1 s at (at + 1) (omega arith) (omega arith),
+      field-parts 1 1 s (at + 2) (at + 3) (omega arith) (omega arith),
+      field-parts 1 1 s (at + 4) (at + 5) (omega arith) (omega arith),
+      field-parts 1 1 s (at + 6) (at + 7) (omega arith) (omega arith),
+    )

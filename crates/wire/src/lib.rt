@@ -20,7 +20,7 @@ pub fn field8(s: &[u8], at: usize) -> u64
     wide(s[at])
 }
 
-// The field of 16 bits, of 32 and of 64: two halves each.
+// The field of 16 bits, and of 32: two halves each.
 pub fn field16(s: &[u8], at: usize) -> u64
     requires { ⌜ at + 2 ≤ length (now s) ⌝ }
     ensures { λ r. ⌜ (r ≡ fieldAt 2 (now (s .entry)) at) × (r < 65536) ⌝ }
@@ -35,11 +35,15 @@ pub fn field32(s: &[u8], at: usize) -> u64
     field16(s, at) * 65536 + field16(s, at + 2)
 }
 
+// The field of 64 bits: eight bytes in one expression, which compiles to one load.
 pub fn field64(s: &[u8], at: usize) -> u64
     requires { ⌜ at + 8 ≤ length (now s) ⌝ }
     ensures { λ r. ⌜ r ≡ fieldAt 8 (now (s .entry)) at ⌝ }
 {
-    field32(s, at) * 4294967296 + field32(s, at + 4)
+    ((field8(s, at) * 72057594037927936 + field8(s, at + 1) * 281474976710656)
+        + (field8(s, at + 2) * 1099511627776 + field8(s, at + 3) * 4294967296))
+        + ((field8(s, at + 4) * 16777216 + field8(s, at + 5) * 65536)
+            + (field8(s, at + 6) * 256 + field8(s, at + 7)))
 }
 
 // The 64 bits of a signed number.

@@ -1,34 +1,25 @@
--- `reckoner::Ledger::close` meets its contract: the report is written where it fits.
+-- `reckoner::Ledger::close` meets its contract: the ledger is written, or refused with the buffer's number.
 -- Assumes nothing.
-use native.Mathlib.Omega.{arith}
-use borrow.Author.Tests.{lt-ltb, le-ltb}
 use borrow.Author.Needs.{needs}
-use Rattle.reckoner.specs.Ledger.{report}
-use Rattle.reckoner.specs.Calls.{closeCall, closedBuffer}
-use Rattle.reckoner.proofs.Invariant.{handed-kept}
+use Rattle.reckoner.proofs.Invariant.{handed-kept, closable}
+use Rattle.reckoner.proofs.EndLaws.{close-no, close-yes}
 use Rattle.reckoner.proofs.Ledger.close.Statement.{statement}
 use Rattle.reckoner.proofs.Ledger.close.Tie as tie
 
-mul-if1 : tie.Need-mul-if1
-mul-if1 c = omega (arith, handed-kept (c .before .pre) .count)
-
-add-if1 : tie.Need-add-if1
-add-if1 c = omega (arith, handed-kept (c .before .pre) .count)
-
-returns : tie.Need-returns
-unfolding closeCall closedBuffer
-returns c = let t = lt-ltb _ _ (c .if1 .taken) in (simp t, (simp t, c .before .before .pre))
-
-write-report-requires : tie.Need-write-report-requires
-write-report-requires c κs = let k = handed-kept (c .before .before .before .before .before .before .before .before .before .before .pre) in ((omega (arith, k .count), c .before .before .before .before .before .before .before .before .if1 .left), (omega (arith, k .project), omega (arith, k .belt)))
+write-ledger-requires : tie.Need-write-ledger-requires
+write-ledger-requires c κs = closable _ (handed-kept (c .before .before .pre))
 
 same-length : tie.Need-same-length
 same-length c = search needs
 
+returns : tie.Need-returns
+returns c = (close-no (c .before .before .before .before .before .before .args .self) _ _ (c .before .before .before .write-ledger .ensures .0) (c .if1 .taken), (c .before .before .before .write-ledger .ensures .1, c .before .before .before .before .before .before .pre))
+
+same-length-2 : tie.Need-same-length-2
+same-length-2 c = search needs
+
 returns-2 : tie.Need-returns-2
-unfolding closeCall closedBuffer report
-returns-2 c = let t = le-ltb _ _ (c .before .before .before .before .before .before .before .before .before .before .before .if1 .left) in (simp t, (simp t (c .before .before .write-report .ensures), c .before .before .before .before .before .before .before .before .before .before .before .before .before .pre))
+returns-2 c = (close-yes (c .before .before .before .before .before .before .args .self) _ _ (c .before .before .before .write-ledger .ensures .0) (c .if1 .left), (c .before .before .before .write-ledger .ensures .1, c .before .before .before .before .before .before .pre))
 
 pub close-spec : {M : Type 1} → statement M
-close-spec =
-    tie.close (tie.spec mul-if1 add-if1 returns write-report-requires same-length returns-2)
+close-spec = tie.close (tie.spec write-ledger-requires same-length returns same-length-2 returns-2)
