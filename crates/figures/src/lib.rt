@@ -1,5 +1,4 @@
 // The figures of a year.
-use classes::AreaUnits;
 use classes::CarbonUnits;
 use classes::Grams;
 ghost use mathlib.Core.Path.{_≡_};
@@ -10,9 +9,8 @@ ghost use lib.IntN.{pos, negsuc};
 ghost use lib.Signed.{mag};
 ghost use Rattle.classes.specs.Classes.{NF};
 ghost use Rattle.classes.specs.Matrix.{entry, tableOf};
-ghost use Rattle.projection.specs.Projection.{FactorsFit};
-ghost use Rattle.figures.specs.Figures.{referenceLevel, monitoredCarbon, countedFactor, stockChangeEmissions, displacedEmissions, creditedOf, tonnesOf, figuresOf};
-ghost use Rattle.figures.specs.Ranges.{SmallCarbon, SmallYear, SmallTable, SmallGrams};
+ghost use Rattle.figures.specs.Figures.{referenceLevel, countedFactor, stockChangeEmissions, displacedEmissions, creditedOf, tonnesOf, figuresOf};
+ghost use Rattle.figures.specs.Ranges.{SmallCarbon, SmallYear, SmallGrams};
 
 // The eight figures of a year, in the order in which they are reported.
 pub struct Figures {
@@ -54,22 +52,6 @@ fn counted_factor(option: u64, factor: u64, j: usize) -> u64
     } else {
         factor
     }
-}
-
-// The carbon of monitored conversions, in area units, by a table of factors.
-pub fn monitored(conversions: &[u64; 144], factors: &[u64; 144]) -> CarbonUnits
-    requires { ⌜ SmallTable (now conversions) ⌝ }
-    requires { ⌜ FactorsFit (now factors) ⌝ }
-    ensures { λ r. ⌜ r .0 ≡ monitoredCarbon (entry (now (factors .entry))) (now (conversions .entry)) ⌝ }
-{
-    let mut carbon: u64 = 0;
-    let mut k: usize = 0;
-    while k < 144 {
-        let c = projection::released(AreaUnits(conversions[k]), factors[k]);
-        carbon = carbon + c.0;
-        k += 1;
-    }
-    CarbonUnits(carbon)
 }
 
 // The reference level for d = days of D = yeardays. Carbon × 11 × d passes 64 bits, so the quotient of the carbon by the divisor and its remainder are weighed apart.

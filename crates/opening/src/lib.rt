@@ -6,7 +6,7 @@ ghost use lib.ListN.{length, drop};
 ghost use lib.Seq.{sets};
 ghost use Rattle.wire.specs.Bytes.{numbers, total};
 ghost use Rattle.dossier.specs.JudgingRecords.{head, areas as judgedAreas, matrix as judgedMatrix, matrixUnder};
-ghost use Rattle.dossier.specs.Judging.{opening as judgedOpening, openingPiece};
+ghost use Rattle.dossier.specs.Judging.{opening as judgedOpening};
 ghost use Rattle.opening.specs.Answers.{headFields, headSays, headInside, amounts, noAreas, areasSays, areasInside, noMatrix, matrixSays, matrixInside};
 ghost use Rattle.opening.specs.Answers.{matrixUnderSays, matrixUnderInside, noOpening, openedSays, openedInside, fromBelt, fromAreas};
 
@@ -284,27 +284,5 @@ pub fn read_opening(s: &[u8], at: usize) -> Opened
     match read_head(s, at) {
         HeadAnswer::Refused(n) => no_opening(n),
         HeadAnswer::Read { head, next } => with_areas(s, next, head),
-    }
-}
-
-// An opening piece: HD to DA or MP, and nothing after it.
-pub fn read_opening_piece(s: &[u8]) -> Opened
-    ensures { λ r. ⌜ openedSays (now (s .entry)) r ≡ openingPiece (now (s .entry)) ⌝ }
-    ensures { λ r. ⌜ openedInside (now (s .entry)) r ⌝ }
-{
-    let opened = read_opening(s, 0);
-    let answer = opened.answer;
-    match answer {
-        OpeningAnswer::Refused(n) => no_opening(n),
-        OpeningAnswer::Read { next, .. } => {
-            let left = s.len() - next;
-            if left == 1 {
-                return no_opening(1);
-            }
-            if 0 < left {
-                return no_opening(2);
-            }
-            opened
-        }
     }
 }

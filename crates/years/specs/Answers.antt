@@ -16,7 +16,7 @@ use Rattle.dossier.specs.Records.{Due}
 use Rattle.dossier.specs.Reader.{Judged, refused, accepted, Reader, _>>=_, _>>_, give, endOfPiece}
 use Rattle.dossier.specs.JudgingRecords.{conversions}
 use Rattle.dossier.specs.Marks.{CP, CD}
-use Rattle.dossier.specs.Judging.{year, yearPiece}
+use Rattle.dossier.specs.Judging.{year}
 use Rattle.activities.specs.Answers.{Summed, summedActivities}
 use Rattle.years.specs.declared.TableAnswer.{TableAnswer}
 use Rattle.years.specs.declared.YearAnswer.{YearAnswer}
@@ -56,11 +56,6 @@ summary factor y = record {
 unfoldable pub summarizedYear : (ℕ → ℕ → ℕ) → Due → Reader Summary
 summarizedYear factor due = do
   y ← year due
-  give (summary factor y)
-
-unfoldable pub summarizedPiece : (ℕ → ℕ → ℕ) → Due → Reader Summary
-summarizedPiece factor due = do
-  y ← yearPiece due
   give (summary factor y)
 
 -- from the activity records on, and from CP on

@@ -1,4 +1,4 @@
-// Reads a dossier on standard input and prints its sheet, or its refusal. What 65,536 bytes do not hold is refused by them.
+// Reads a dossier on standard input and prints its sheet, or its refusal. The longest dossier has 65,062 bytes: of a longer input the first 65,536 are judged.
 use libc::STDIN_FILENO;
 use libc::STDOUT_FILENO;
 

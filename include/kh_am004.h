@@ -1,0 +1,37 @@
+/* The KH_AM004 forest credit reckoner for a host in C. Link with libreckoner.a, which `rt staticlib reckoner` makes. */
+#ifndef KH_AM004_H
+#define KH_AM004_H
+
+#include <stddef.h>
+#include <stdint.h>
+
+/* Bytes that hold the report of n years. */
+#define KH_AM004_REPORT(n) (64 * (size_t)(n) + 32)
+
+/* Why a dossier is refused. */
+enum kh_am004_refusal {
+    KH_AM004_ACCEPTED = 0,
+    KH_AM004_BYTES_END = 1,       /* before or inside a mark still needed, or inside a record */
+    KH_AM004_MARK = 2,            /* a mark that is not due, or bytes after EN */
+    KH_AM004_HEAD = 3,            /* a field of HD out of range */
+    KH_AM004_AREAS = 4,           /* the total of PA or DA wrong */
+    KH_AM004_MATRIX = 5,          /* a row sum of MP wrong */
+    KH_AM004_YEAR = 6,            /* not the next year, none left, or its days wrong */
+    KH_AM004_CONVERSIONS = 7,     /* the total of CP or CD wrong */
+    KH_AM004_ACTIVITY = 8,        /* an activity field, or the product of VE, out of range */
+    KH_AM004_RECORDS = 9,         /* a 61st activity record of a year */
+    KH_AM004_BUFFER = 10          /* the buffer under KH_AM004_REPORT(n) bytes */
+};
+
+/*
+ * Reckons a dossier. 0: the report stands at the start of result, and the bytes beyond it are as they were.
+ * Otherwise the number of the refusal, and every byte of result is as it was. Neither pointer may be null, and the
+ * two must not overlap; the call keeps neither.
+ *
+ * The report is of big-endian 64-bit numbers in two's complement. For each year: reference, project, activity, belt,
+ * belt reference, displaced, reduction, credited, in grams of CO2. Then the total in grams, the tonnes, and the
+ * balances of project and belt in millionths of a hectare.
+ */
+uint32_t kh_am004_reckon(const uint8_t *dossier, size_t dossier_len, uint8_t *result, size_t result_len);
+
+#endif

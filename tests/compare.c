@@ -1,0 +1,233 @@
+/* Compares the proved reckoner with the plain one: the same number and the same bytes on dossiers sound, cut, padded and
+ * spoilt; a thread stack of 64 KiB; and, on the longest dossier, no longer a time. */
+#include "kh_am004.h"
+#include "plain.h"
+#include <pthread.h>
+#include <stdio.h>
+#include <stdlib.h>
+#include <string.h>
+#include <time.h>
+
+static uint8_t made[70000], spoilt[70000];
+static size_t length;
+static uint64_t seed = 0x9e3779b97f4a7c15;
+
+static uint64_t draw(uint64_t below)
+{
+    seed ^= seed << 13;
+    seed ^= seed >> 7;
+    seed ^= seed << 17;
+    return below ? (seed >> 11) % below : 0;
+}
+
+static void put(uint64_t value, int bytes)
+{
+    while (bytes--)
+        made[length++] = (uint8_t)(value >> (8 * bytes));
+}
+
+static void mark(const char *m)
+{
+    made[length++] = (uint8_t)m[0];
+    made[length++] = (uint8_t)m[1];
+}
+
+/* count numbers that add up to a total */
+static void split(uint64_t total, int count, int bytes)
+{
+    for (int k = 0; k < count; k++) {
+        uint64_t part = k == count - 1 ? total : draw(4) ? draw(total / 8 + 1) : 0;
+        put(part, bytes);
+        total -= part;
+    }
+}
+
+static void record(int kind)
+{
+    static const char *marks[4] = { "FU", "VE", "NI", "LI" };
+    mark(marks[kind]);
+    put(1 + draw(3), 1);
+    if (kind == 1) {
+        put(draw(1001), 4);
+        put(draw(100000), 4);
+        put(draw(10000), 4);
+    } else if (kind == 2) {
+        put(1 + draw(2), 1);
+        put(draw(10000000001), 8);
+        put(draw(10001), 2);
+    } else
+        put(draw(1000000000001), 8);
+}
+
+static void dossier(int option, int first, int years, int records, int kind)
+{
+    uint64_t start[2] = { 1 + draw(draw(2) ? 100 : 1000000000000), draw(draw(2) ? 100 : 1000000000001) };
+    length = 0;
+    mark("HD");
+    put((uint64_t)option, 1);
+    put((uint64_t)first, 2);
+    put((uint64_t)years, 1);
+    for (int r = 0; r < 2; r++) {
+        mark(r ? "DA" : "PA");
+        split(start[r], 12, 8);
+    }
+    if (option == 2) {
+        mark("MP");
+        for (int i = 0; i < 12; i++)
+            split(1000000, 12, 4);
+    }
+    for (int y = 0; y < years; y++) {
+        mark("YR");
+        put((uint64_t)(first + y), 2);
+        put(1 + draw(365), 2);
+        for (int r = 0; r < 2; r++) {
+            mark(r ? "CD" : "CP");
+            split(start[r], 144, 8);
+        }
+        for (int k = records < 0 ? (int)draw(62) : records; k > 0; k--)
+            record(kind < 0 ? (int)draw(4) : kind);
+    }
+    mark("EN");
+}
+
+static unsigned counts[11];
+
+static void same(const uint8_t *s, size_t n, size_t room)
+{
+    static uint8_t proved[1500], plain[1500];
+    for (size_t k = 0; k < sizeof proved; k++)
+        proved[k] = plain[k] = (uint8_t)draw(256);
+    uint32_t a = kh_am004_reckon(s, n, proved, room), b = plain_reckon(s, n, plain, room);
+    if (a != b || memcmp(proved, plain, sizeof proved)) {
+        printf("they differ: proved %u, plain %u, %zu bytes, buffer %zu\n", a, b, n, room);
+        exit(1);
+    }
+    counts[a]++;
+}
+
+static void spoil(void)
+{
+    static const char *marks[10] = { "HD", "PA", "DA", "MP", "YR", "CP", "CD", "FU", "EN", "LI" };
+    size_t n = length;
+    memcpy(spoilt, made, n);
+    switch (draw(5)) {
+    case 0: n = draw(n + 1); break;
+    case 1: spoilt[n] = (uint8_t)draw(256); n += 1 + draw(8); break;
+    case 2: memcpy(spoilt + draw(n - 1), marks[draw(10)], 2); break;
+    case 3: spoilt[draw(draw(2) ? 12 : n)] = (uint8_t)draw(256); break;
+    default: memcpy(spoilt + n - 2, marks[draw(10)], 2); n += draw(8); break;
+    }
+    same(spoilt, n, draw(2) ? 1312 : draw(1400));
+}
+
+static void expect(uint32_t number, size_t room)
+{
+    static uint8_t result[1312];
+    uint32_t answer = kh_am004_reckon(made, length, result, room);
+    if (answer != number) {
+        printf("answered %u where %u is due\n", answer, number);
+        exit(1);
+    }
+}
+
+/* document 01's unmarked edges */
+static void edges(void)
+{
+    dossier(1, 2020, 20, 0, -1);
+    expect(0, 1312);
+    made[5] = 21;
+    expect(3, 1312);
+    dossier(2, 2020, 1, 0, -1);
+    expect(10, 95);
+    expect(0, 96);
+    if (made[251]-- == 0) /* the last cell of the first row, one less: 999,999 */
+        exit(1);
+    expect(5, 1312);
+    dossier(1, 2100, 1, 0, -1);
+    expect(0, 96);
+    made[206] = 366 >> 8;
+    made[207] = 366 & 255;
+    expect(6, 1312);
+}
+
+/* the first 65,536 bytes, which `yearsheet` reads, are answered as the whole input is */
+static void long_inputs(void)
+{
+    static const char *marks[8] = { "EN", "YR", "FU", "VE", "NI", "LI", "CP", "??" };
+    static uint8_t result[1312];
+    for (int k = 0; k < 2000; k++) {
+        if (k % 100 == 0)
+            dossier(2, 2000, 20, 60, 1);
+        memcpy(spoilt, made, length);
+        for (size_t at = length; at < sizeof spoilt; at++)
+            spoilt[at] = (uint8_t)draw(256);
+        memcpy(spoilt + length - 2, marks[k % 8], 2);
+        if (draw(2))
+            memcpy(spoilt + length + draw(4), marks[draw(8)], 2);
+        if (draw(4) == 0)
+            spoilt[draw(length)] ^= (uint8_t)draw(256);
+        uint32_t whole = kh_am004_reckon(spoilt, 65537 + draw(4000), result, sizeof result);
+        if (whole == 0 || whole != kh_am004_reckon(spoilt, 65536, result, sizeof result)) {
+            printf("a long input is answered %u\n", whole);
+            exit(1);
+        }
+    }
+}
+
+static void *on_thread(void *unused)
+{
+    static uint8_t result[1312];
+    (void)unused;
+    return kh_am004_reckon(made, length, result, sizeof result) ? NULL : made;
+}
+
+static double seconds(uint32_t (*reckon)(const uint8_t *, size_t, uint8_t *, size_t))
+{
+    static uint8_t result[1312];
+    struct timespec a, b;
+    clock_gettime(CLOCK_MONOTONIC, &a);
+    for (int k = 0; k < 20; k++)
+        if (reckon(made, length, result, sizeof result))
+            exit(1);
+    clock_gettime(CLOCK_MONOTONIC, &b);
+    return (double)(b.tv_sec - a.tv_sec) + 1e-9 * (double)(b.tv_nsec - a.tv_nsec);
+}
+
+int main(void)
+{
+    edges();
+    long_inputs();
+    for (int k = 0; k < 3000; k++) {
+        int first = 2000 + (int)draw(201);
+        dossier(1 + (int)draw(2), first, 1 + (int)draw(20), -1, -1);
+        same(made, length, draw(2) ? 1312 : draw(1400));
+        dossier(1 + (int)draw(2), first, 1 + (int)draw(20), (int)draw(5), -1);
+        same(made, length, 1312);
+        for (int s = 0; s < 10; s++)
+            spoil();
+    }
+    printf("same number and same bytes; how often each number came:");
+    for (int k = 0; k <= 10; k++)
+        printf(" %u", counts[k]);
+    for (int k = 0; k <= 10; k++)
+        if (!counts[k])
+            return 1;
+    dossier(2, 2000, 20, 60, 1);
+    void *answer = NULL;
+    pthread_attr_t small;
+    pthread_t thread;
+    pthread_attr_init(&small);
+    if (length != 65062 || pthread_attr_setstacksize(&small, 65536) || pthread_create(&thread, &small, on_thread, NULL))
+        return 1;
+    pthread_join(thread, &answer);
+    if (answer != made)
+        return 1;
+    double proved = 1, plain = 1;
+    for (int k = 0; k < 100; k++) {
+        double a = seconds(kh_am004_reckon), b = seconds(plain_reckon);
+        proved = a < proved ? a : proved;
+        plain = b < plain ? b : plain;
+    }
+    printf("\nthe longest dossier, on a stack of 64 KiB: accepted; best time, proved %.1f us, plain C %.1f us\n", 5e4 * proved, 5e4 * plain);
+    return proved > plain;
+}

@@ -1,0 +1,203 @@
+/* A plain reckoner in C by document 01's steps. It is not proved: the tests compare with it, in bytes and in time. */
+#include "plain.h"
+#include <string.h>
+
+typedef unsigned __int128 wide;
+
+static const unsigned stock[12] = { 9130, 13511, 5654, 4821, 0, 8415, 9240, 3986, 4265, 5654, 5654, 0 };
+static const unsigned lost[12] = { 24900, 30900, 0, 34500, 14100, 10000, 41700, 50600, 97200, 116900, 0, 0 };
+
+struct input { const uint8_t *s; size_t n, at; };
+
+static uint64_t field(struct input *in, int bytes)
+{
+    uint64_t v = 0;
+    while (bytes--)
+        v = v << 8 | in->s[in->at++];
+    return v;
+}
+
+static int stands(const struct input *in, const char *mark)
+{
+    return in->n - in->at >= 2 && memcmp(in->s + in->at, mark, 2) == 0;
+}
+
+static int begin(struct input *in, const char *mark, size_t bytes)
+{
+    if (in->n - in->at < 2)
+        return 1;
+    if (!stands(in, mark))
+        return 2;
+    if (in->n - in->at - 2 < bytes)
+        return 1;
+    in->at += 2;
+    return 0;
+}
+
+static uint64_t up(wide x, uint64_t by) { return (uint64_t)((x + by - 1) / by); }
+
+/* a table of 64-bit numbers, and their sum */
+static int table(struct input *in, const char *mark, uint64_t *cell, int count, wide *sum)
+{
+    int fault = begin(in, mark, 8 * (size_t)count);
+    *sum = 0;
+    for (int k = 0; !fault && k < count; k++)
+        *sum += cell[k] = field(in, 8);
+    return fault;
+}
+
+static const unsigned fuel[3] = { 318630, 306999, 310059 }, lime[3] = { 132, 143, 220 };
+static const unsigned nitrogen[2][3] = { { 1325, 1425, 1225 }, { 625, 725, 525 } };
+
+/* 1: no activity record stands here; 0: one is read; otherwise -fault */
+static int activity(struct input *in, int before, uint64_t *grams)
+{
+    static const char *marks[4] = { "FU", "VE", "NI", "LI" };
+    static const int sizes[4] = { 9, 13, 12, 9 };
+    int m = 0, fault;
+    while (m < 4 && !stands(in, marks[m]))
+        m++;
+    if (m == 4)
+        return 1;
+    if (before == 60)
+        return -9;
+    if ((fault = begin(in, marks[m], (size_t)sizes[m])))
+        return -fault;
+    uint64_t kind = field(in, 1);
+    if (m == 2) {
+        uint64_t crop = field(in, 1), g = field(in, 8), content = field(in, 2);
+        if (kind < 1 || kind > 3 || crop < 1 || crop > 2 || g > 10000000000 || content > 10000)
+            return -8;
+        *grams += up((wide)g * content * nitrogen[crop - 1][kind - 1] * 3278, 7000000000);
+        return 0;
+    }
+    uint64_t g;
+    if (m == 1) {
+        uint64_t count = field(in, 4), average = field(in, 4), each = field(in, 4);
+        if (count > 1000 || average > 1000000 || each > 100000)
+            return -8;
+        g = count * average * each;
+    } else
+        g = field(in, 8);
+    if (kind < 1 || kind > 3 || g > 1000000000000)
+        return -8;
+    *grams += m == 3 ? up((wide)g * lime[kind - 1], 300) : up((wide)g * fuel[kind - 1], 100000);
+    return 0;
+}
+
+static unsigned factor(int i, int j)
+{
+    return stock[i] > stock[j] && j != 9 && j != 10 ? stock[i] - stock[j] : 0;
+}
+
+/* a year's projection: the areas and the balance move on, and the carbon is answered */
+static wide project(uint64_t *area, uint64_t *balance, unsigned matrix[12][12], unsigned factors[12][12])
+{
+    uint64_t next[12] = { 0 };
+    wide carbon = 0;
+    for (int i = 0; i < 12; i++) {
+        uint64_t rest = area[i];
+        for (int j = 0; j < 12; j++) {
+            uint64_t flow = (uint64_t)((wide)area[i] * matrix[i][j] / 1000000);
+            carbon += (wide)flow * factors[i][j];
+            next[j] += flow;
+            rest -= flow;
+        }
+        *balance += rest;
+    }
+    memcpy(area, next, sizeof next);
+    return carbon;
+}
+
+static uint64_t monitored(const uint64_t *cell, unsigned factors[12][12], int option)
+{
+    wide carbon = 0;
+    for (int i = 0; i < 12; i++)
+        for (int j = option == 1 ? 11 : 0; j < 12; j++)
+            carbon += (wide)cell[12 * i + j] * factors[i][j];
+    return up(carbon * 11, 300);
+}
+
+uint32_t plain_reckon(const uint8_t *dossier, size_t dossier_len, uint8_t *result, size_t result_len)
+{
+    struct input in = { dossier, dossier_len, 0 };
+    uint64_t area[2][12], cell[2][144], balance[2] = { 0, 0 };
+    unsigned matrix[12][12] = { { 0 } }, factors[12][12];
+    int64_t out[8 * 20 + 4], total = 0;
+    wide start[2], sum;
+    int fault;
+
+    if ((fault = begin(&in, "HD", 4)))
+        return (uint32_t)fault;
+    int option = (int)field(&in, 1), first = (int)field(&in, 2), n = (int)field(&in, 1);
+    if (option < 1 || option > 2 || first < 2000 || first > 2200 || n < 1 || n > 20)
+        return 3;
+    for (int r = 0; r < 2; r++) {
+        if ((fault = table(&in, r ? "DA" : "PA", area[r], 12, &start[r])))
+            return (uint32_t)fault;
+        if (start[r] > 1000000000000 || (r == 0 && start[r] == 0))
+            return 4;
+    }
+    if (option == 2 && (fault = begin(&in, "MP", 576)))
+        return (uint32_t)fault;
+    for (int i = 0; i < 12; i++) {
+        uint64_t row = 0;
+        for (int j = 0; j < 12; j++) {
+            factors[i][j] = factor(i, j);
+            if (option == 2)
+                row += matrix[i][j] = (unsigned)field(&in, 4);
+        }
+        if (option == 2 && row != 1000000)
+            return 5;
+        if (option == 1) {
+            matrix[i][i] = 1000000 - lost[i];
+            matrix[i][11] += lost[i];
+        }
+    }
+    for (int y = 0; y < n; y++) {
+        if ((fault = begin(&in, "YR", 4)))
+            return (uint32_t)fault;
+        int year = (int)field(&in, 2), d = (int)field(&in, 2);
+        int days = year % 4 == 0 && (year % 100 != 0 || year % 400 == 0) ? 366 : 365;
+        if (year != first + y || d < 1 || d > days)
+            return 6;
+        for (int r = 0; r < 2; r++) {
+            if ((fault = table(&in, r ? "CD" : "CP", cell[r], 144, &sum)))
+                return (uint32_t)fault;
+            if (sum != start[r])
+                return 7;
+        }
+        uint64_t grams = 0;
+        for (int k = 0; (fault = activity(&in, k, &grams)) == 0; k++)
+            ;
+        if (fault < 0)
+            return (uint32_t)-fault;
+        int64_t *f = out + 8 * y;
+        for (int r = 0; r < 2; r++) {
+            f[r ? 4 : 0] = (int64_t)(project(area[r], &balance[r], matrix, factors) * 11 * (unsigned)d / (300 * (unsigned)days));
+            f[r ? 3 : 1] = (int64_t)monitored(cell[r], factors, option);
+        }
+        f[2] = (int64_t)grams;
+        f[5] = f[3] > f[4] ? f[3] - f[4] : 0;
+        f[6] = f[0] - f[1] - f[2] - f[5];
+        f[7] = f[6] >= 0 ? f[6] * 4 / 5 : -((-f[6] * 4 + 4) / 5);
+        total += f[7];
+    }
+    if (stands(&in, "YR"))
+        return in.n - in.at < 6 ? 1 : 6;
+    if ((fault = begin(&in, "EN", 0)))
+        return (uint32_t)fault;
+    if (in.at != in.n)
+        return 2;
+    if (result_len < 64 * (size_t)n + 32)
+        return 10;
+    int64_t *f = out + 8 * n;
+    f[0] = total;
+    f[1] = total > 0 ? total / 1000000 : 0;
+    f[2] = (int64_t)balance[0];
+    f[3] = (int64_t)balance[1];
+    for (int k = 0; k < 8 * n + 4; k++)
+        for (int b = 0; b < 8; b++)
+            result[8 * k + b] = (uint8_t)((uint64_t)out[k] >> (56 - 8 * b));
+    return 0;
+}
