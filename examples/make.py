@@ -36,5 +36,46 @@ def case_a():
     ))
 
 
+def twenty_years():
+    """Option 2 over twenty years: every class keeps 97 percent, loses two to NF and one to the next class."""
+    start = {c: 1_000_000 * (k + 1) for k, c in enumerate(CLASSES)}
+    belt = {c: 250_000 for c in CLASSES}
+    rows = [[970_000 * (i == j) + 20_000 * (j == 11) + 10_000 * (j == (i + 1) % 12) for j in range(12)] for i in range(12)]
+    stay = conversions(*((c, c, a) for c, a in start.items()))
+    turn = conversions(*((c, c, a - 1_000) for c, a in belt.items()), *((c, "NF", 1_000) for c in CLASSES[:11]), ("NF", "E", 1_000))
+    years = b"".join(
+        b"YR" + struct.pack(">HH", year, 365) + b"CP" + stay + b"CD" + turn
+        + b"VE" + struct.pack(">BIII", 2, 3, 12_000, 90) + b"NI" + struct.pack(">BBQH", 1, 2, 50_000, 4_600)
+        + b"LI" + struct.pack(">BQ", 3, 10_000)
+        for year in range(2010, 2030))
+    matrix = b"".join(struct.pack(">I", p) for row in rows for p in row)
+    return (b"HD" + struct.pack(">BHB", 2, 2010, 20) + b"PA" + areas(**start) + b"DA" + areas(**belt)
+            + b"MP" + matrix + years + b"EN")
+
+
+def refusals():
+    """One dossier for each refusal that bytes alone can bring, case A or the twenty years with one fault."""
+    good, long = case_a(), twenty_years()
+
+    def with_bytes(data, at, new):
+        return data[:at] + new + data[at + len(new):]
+
+    fuel = good[-13:-2]
+    return {
+        1: good[:-1],
+        2: good + b"\n",
+        3: with_bytes(good, 5, bytes([21])),
+        4: with_bytes(good, 8, b"\xff"),
+        5: with_bytes(long, 204, struct.pack(">I", 969_999)),
+        6: with_bytes(good, 206, struct.pack(">H", 367)),
+        7: with_bytes(good, 210, struct.pack(">Q", 99_000_001)),
+        8: with_bytes(good, len(good) - 11, bytes([4])),
+        9: good[:-2] + 60 * fuel + b"EN",
+    }
+
+
 if __name__ == "__main__":
     (HERE / "case-a.dossier").write_bytes(case_a())
+    (HERE / "twenty-years.dossier").write_bytes(twenty_years())
+    for number, data in refusals().items():
+        (HERE / f"refused-{number}.dossier").write_bytes(data)

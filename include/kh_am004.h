@@ -8,6 +8,14 @@
 /* Bytes that hold the report of n years. */
 #define KH_AM004_REPORT(n) (64 * (size_t)(n) + 32)
 
+/* Where the report holds what. Year y counts from 0; its eight figures stand in a row: reference, project, activity,
+ * belt, belt reference, displaced, reduction, credited. */
+#define KH_AM004_YEAR_FIGURES(y) (64 * (size_t)(y))
+#define KH_AM004_TOTAL(n) (64 * (size_t)(n))
+#define KH_AM004_TONNES(n) (64 * (size_t)(n) + 8)
+#define KH_AM004_BALANCE(n) (64 * (size_t)(n) + 16)
+#define KH_AM004_BELT_BALANCE(n) (64 * (size_t)(n) + 24)
+
 /* Why a dossier is refused. */
 enum kh_am004_refusal {
     KH_AM004_ACCEPTED = 0,
@@ -28,9 +36,8 @@ enum kh_am004_refusal {
  * Otherwise the number of the refusal, and every byte of result is as it was. Neither pointer may be null, and the
  * two must not overlap; the call keeps neither.
  *
- * The report is of big-endian 64-bit numbers in two's complement. For each year: reference, project, activity, belt,
- * belt reference, displaced, reduction, credited, in grams of CO2. Then the total in grams, the tonnes, and the
- * balances of project and belt in millionths of a hectare.
+ * The report is of big-endian 64-bit numbers in two's complement: each year's figures and the total in grams of CO2,
+ * the tonnes, and the balances in millionths of a hectare.
  */
 uint32_t kh_am004_reckon(const uint8_t *dossier, size_t dossier_len, uint8_t *result, size_t result_len);
 

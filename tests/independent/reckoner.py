@@ -1,0 +1,246 @@
+#!/usr/bin/env python3
+"""A reckoner written from document 01 alone, with whole numbers and fractions: what the proved one is compared with.
+
+    python3 tests/independent/reckoner.py < DOSSIER      prints the sheet, and checks demand 3 of it
+"""
+import sys
+from fractions import Fraction
+
+CLASSES = "E SE P D B M MR FF FR TP PP NF".split()
+STOCK = dict(zip(CLASSES, (9130, 13511, 5654, 4821, 0, 8415, 9240, 3986, 4265, 5654, 5654, 0)))
+INTO_NON_FOREST = dict(zip(CLASSES, (24900, 30900, 0, 34500, 14100, 10000, 41700, 50600, 97200, 116900, 0, 0)))
+FACTOR = {(i, j): max(STOCK[i] - STOCK[j], 0) if j not in ("TP", "PP") else 0 for i in CLASSES for j in CLASSES}
+FUEL = {1: 318630, 2: 306999, 3: 310059}
+LIMING = {1: 132, 2: 143, 3: 220}
+NITROGEN = {(1, 1): 1325, (2, 1): 1425, (3, 1): 1225, (1, 2): 625, (2, 2): 725, (3, 2): 525}
+ACTIVITY_FIELDS = {b"FU": (1, 8), b"VE": (1, 4, 4, 4), b"NI": (1, 1, 8, 2), b"LI": (1, 8)}
+
+
+class Refused(Exception):
+    def __init__(self, number):
+        super().__init__(number)
+        self.number = number
+
+
+def require(holds, number):
+    if not holds:
+        raise Refused(number)
+
+
+class Cursor:
+    def __init__(self, data):
+        self.data, self.at = bytes(data), 0
+
+    def left(self):
+        return len(self.data) - self.at
+
+    def sees(self, marks):
+        return self.data[self.at:self.at + 2] in marks
+
+    def record(self, mark, widths):
+        require(self.left() >= 2, 1)
+        require(self.sees((mark,)), 2)
+        require(self.left() >= 2 + sum(widths), 1)
+        self.at += 2
+        values = []
+        for width in widths:
+            values.append(int.from_bytes(self.data[self.at:self.at + width], "big"))
+            self.at += width
+        return values
+
+    def end_of_piece(self):
+        require(self.left() != 1, 1)
+        require(self.left() == 0, 2)
+
+
+def days_of(year):
+    return 366 if year % 4 == 0 and (year % 100 != 0 or year % 400 == 0) else 365
+
+
+def by_pair(values):
+    return {(i, j): values[12 * r + c] for r, i in enumerate(CLASSES) for c, j in enumerate(CLASSES)}
+
+
+def option_one():
+    matrix = {pair: 0 for pair in FACTOR}
+    for i in CLASSES:
+        matrix[i, i] = 1000000 - INTO_NON_FOREST[i]
+        matrix[i, "NF"] += INTO_NON_FOREST[i]
+    return matrix
+
+
+def activity(cursor):
+    """The exact grams of one record."""
+    mark = cursor.data[cursor.at:cursor.at + 2]
+    values = cursor.record(mark, ACTIVITY_FIELDS[mark])
+    if mark == b"NI":
+        source, crop, grams, content = values
+        require(1 <= source <= 3 and 1 <= crop <= 2 and grams <= 10**10 and content <= 10000, 8)
+        return Fraction(grams * content * NITROGEN[source, crop] * 3278, 7000000000)
+    kind = values[0]
+    grams = values[1]
+    if mark == b"VE":
+        _, count, average, each = values
+        require(count <= 1000 and average <= 1000000 and each <= 100000, 8)
+        grams = count * average * each
+    require(1 <= kind <= 3 and grams <= 10**12, 8)
+    return Fraction(grams * LIMING[kind], 300) if mark == b"LI" else Fraction(grams * FUEL[kind], 100000)
+
+
+def down(x):
+    return x.numerator // x.denominator
+
+
+def up(x):
+    return -((-x.numerator) // x.denominator)
+
+
+class Region:
+    def __init__(self, areas=None):
+        areas = areas or [0] * 12
+        self.start = sum(areas)
+        self.areas = dict(zip(CLASSES, areas))
+        self.exact = {c: Fraction(a) for c, a in self.areas.items()}
+        self.balance = 0
+
+    def project(self, matrix):
+        """The carbon of the year, rounded and exact; the areas become those that the next year starts from."""
+        flows = {(i, j): self.areas[i] * matrix[i, j] // 1000000 for i, j in FACTOR}
+        exact = {(i, j): self.exact[i] * matrix[i, j] / 1000000 for i, j in FACTOR}
+        self.balance += sum(self.areas.values()) - sum(flows.values())
+        self.areas = {j: sum(flows[i, j] for i in CLASSES) for j in CLASSES}
+        self.exact = {j: sum(exact[i, j] for i in CLASSES) for j in CLASSES}
+        return sum(flows[p] * FACTOR[p] for p in FACTOR), sum(exact[p] * FACTOR[p] for p in FACTOR)
+
+
+class Ledger:
+    """The ledger's calls; each answers its number."""
+
+    def __init__(self):
+        self.option, self.first, self.n, self.matrix = 0, 0, 0, {pair: 0 for pair in FACTOR}
+        self.project, self.belt = Region(), Region()
+        self.years, self.total, self.exact, self.records = [], 0, Fraction(0), 0
+
+    def read_opening(self, cursor):
+        option, first, n = cursor.record(b"HD", (1, 2, 1))
+        require(option in (1, 2) and 2000 <= first <= 2200 and 1 <= n <= 20, 3)
+        regions = []
+        for mark, least in ((b"PA", 1), (b"DA", 0)):
+            areas = cursor.record(mark, (8,) * 12)
+            require(least <= sum(areas) <= 10**12, 4)
+            regions.append(Region(areas))
+        matrix = option_one()
+        if option == 2:
+            matrix = by_pair(cursor.record(b"MP", (4,) * 144))
+            for i in CLASSES:
+                require(sum(matrix[i, j] for j in CLASSES) == 1000000, 5)
+        self.option, self.first, self.n, self.matrix = option, first, n, matrix
+        self.project, self.belt = regions
+
+    def read_year(self, cursor):
+        """The year's days and exact sums, judged; the ledger is not changed."""
+        year, days = cursor.record(b"YR", (2, 2))
+        require(len(self.years) < self.n, 6)
+        require(year == self.first + len(self.years) and 1 <= days <= days_of(year), 6)
+        sums = []
+        for mark, region in ((b"CP", self.project), (b"CD", self.belt)):
+            table = cursor.record(mark, (8,) * 144)
+            require(sum(table) == region.start, 7)
+            counts = {p: f for p, f in FACTOR.items() if self.option == 2 or p[1] == "NF"}
+            table = by_pair(table)
+            sums.append(Fraction(sum(table[p] * f for p, f in counts.items()) * 11, 300))
+        records = []
+        while cursor.sees(ACTIVITY_FIELDS):
+            require(len(records) < 60, 9)
+            records.append(activity(cursor))
+        return year, days, sums, records
+
+    def take(self, read):
+        year, days, (project, belt), records = read
+        share = Fraction(11 * days, 300 * days_of(year))
+        carbon, carbon_exact = self.project.project(self.matrix)
+        belt_carbon, belt_exact = self.belt.project(self.matrix)
+        reference, belt_reference = down(carbon * share), down(belt_carbon * share)
+        emitted, belt_emitted = up(project), up(belt)
+        grams = sum(map(up, records))
+        displaced = max(belt_emitted - belt_reference, 0)
+        reduction = reference - emitted - grams - displaced
+        credited = down(Fraction(4 * reduction, 5))
+        self.years.append((reference, emitted, grams, belt_emitted, belt_reference, displaced, reduction, credited))
+        self.total += credited
+        exact = carbon_exact * share - project - sum(records) - max(belt - belt_exact * share, 0)
+        self.exact += exact * Fraction(4, 5)
+        self.records += len(records)
+        self.check()
+
+    def check(self):
+        """Demand 3, as far as it stands after the years so far."""
+        y, gap = len(self.years), self.exact - self.total
+        assert 0 <= gap and 5 * gap < 261576 * y * (y + 1) + 21 * y + 4 * self.records
+        for region in (self.project, self.belt):
+            assert sum(region.areas.values()) + region.balance == region.start and region.balance <= 132 * y
+            assert all(region.areas[c] <= region.exact[c] for c in CLASSES)
+
+    def open(self, piece):
+        try:
+            cursor, opened = Cursor(piece), Ledger()
+            opened.read_opening(cursor)
+            cursor.end_of_piece()
+        except Refused as refused:
+            self.__init__()
+            return refused.number
+        self.__dict__ = opened.__dict__
+        return 0
+
+    def year(self, piece):
+        try:
+            cursor = Cursor(piece)
+            read = self.read_year(cursor)
+            cursor.end_of_piece()
+        except Refused as refused:
+            return refused.number
+        self.take(read)
+        return 0
+
+    def numbers(self):
+        tonnes = self.total // 1000000 if self.total > 0 else 0
+        return [f for figures in self.years for f in figures] + [self.total, tonnes, self.project.balance, self.belt.balance]
+
+    def close(self, buffer):
+        report = b"".join(n.to_bytes(8, "big", signed=True) for n in self.numbers())
+        if len(buffer) < len(report):
+            return 10
+        buffer[:len(report)] = report
+        return 0
+
+
+def reckon(dossier, buffer):
+    """The whole reckoning: its number and the ledger; the report in the buffer where it is 0."""
+    ledger, cursor = Ledger(), Cursor(dossier)
+    try:
+        ledger.read_opening(cursor)
+        for _ in range(ledger.n):
+            ledger.take(ledger.read_year(cursor))
+        if cursor.sees((b"YR",)):
+            ledger.read_year(cursor)
+        cursor.record(b"EN", ())
+        require(cursor.left() == 0, 2)
+    except Refused as refused:
+        return refused.number, ledger
+    return ledger.close(buffer), ledger
+
+
+def sheet(dossier):
+    number, ledger = reckon(dossier, bytearray(1312))
+    if number:
+        return f"refused {number}\n"
+    lines = ["year reference project activity belt belt-reference displaced reduction credited"]
+    for y, figures in enumerate(ledger.years):
+        lines.append(" ".join(map(str, (ledger.first + y, *figures))))
+    total, tonnes, balance, belt_balance = ledger.numbers()[-4:]
+    lines.append(f"total {total} tonnes {tonnes} balance {balance} {belt_balance}")
+    return "".join(line + "\n" for line in lines)
+
+
+if __name__ == "__main__":
+    sys.stdout.write(sheet(sys.stdin.buffer.read()))
