@@ -1,17 +1,30 @@
-/* A plain reckoner in C by document 01's steps. It is not proved: the tests compare with it, in bytes and in time. */
+/* A plain reckoner in C by document 01's steps. It is not proved: the tests compare with it, in bytes and in time.
+ * Compiled with TUNED it is the benchmark's yardstick: byte-swapped loads, and 64-bit products where they fit. */
 #include "plain.h"
 #include <string.h>
 
 typedef unsigned __int128 wide;
+#ifdef TUNED
+typedef uint64_t product; /* the areas add up to 10^12 at most, a factor is below 2^14, a probability at most 10^6 */
+#else
+typedef unsigned __int128 product;
+#endif
 
 static const unsigned stock[12] = { 9130, 13511, 5654, 4821, 0, 8415, 9240, 3986, 4265, 5654, 5654, 0 };
 static const unsigned lost[12] = { 24900, 30900, 0, 34500, 14100, 10000, 41700, 50600, 97200, 116900, 0, 0 };
 
 struct input { const uint8_t *s; size_t n, at; };
 
-static uint64_t field(struct input *in, int bytes)
+static inline uint64_t field(struct input *in, int bytes)
 {
     uint64_t v = 0;
+#ifdef TUNED
+    if (bytes == 8) {
+        memcpy(&v, in->s + in->at, 8);
+        in->at += 8;
+        return __builtin_bswap64(v);
+    }
+#endif
     while (bytes--)
         v = v << 8 | in->s[in->at++];
     return v;
@@ -94,12 +107,12 @@ static unsigned factor(int i, int j)
 static wide project(uint64_t *area, uint64_t *balance, unsigned matrix[12][12], unsigned factors[12][12])
 {
     uint64_t next[12] = { 0 };
-    wide carbon = 0;
+    product carbon = 0;
     for (int i = 0; i < 12; i++) {
         uint64_t rest = area[i];
         for (int j = 0; j < 12; j++) {
-            uint64_t flow = (uint64_t)((wide)area[i] * matrix[i][j] / 1000000);
-            carbon += (wide)flow * factors[i][j];
+            uint64_t flow = (uint64_t)((product)area[i] * matrix[i][j] / 1000000);
+            carbon += (product)flow * factors[i][j];
             next[j] += flow;
             rest -= flow;
         }
@@ -111,11 +124,11 @@ static wide project(uint64_t *area, uint64_t *balance, unsigned matrix[12][12], 
 
 static uint64_t monitored(const uint64_t *cell, unsigned factors[12][12], int option)
 {
-    wide carbon = 0;
+    product carbon = 0;
     for (int i = 0; i < 12; i++)
         for (int j = option == 1 ? 11 : 0; j < 12; j++)
-            carbon += (wide)cell[12 * i + j] * factors[i][j];
-    return up(carbon * 11, 300);
+            carbon += (product)cell[12 * i + j] * factors[i][j];
+    return up((wide)carbon * 11, 300);
 }
 
 uint32_t plain_reckon(const uint8_t *dossier, size_t dossier_len, uint8_t *result, size_t result_len)
