@@ -24,7 +24,7 @@ pub stock-gap : (S n m projectStart beltStart : ℕ) (r : Reckoning) (u : Unroun
     → (u .total -ᶠ whole (r .total)) ×ᶠ 500 <ᶠ whole (pos (1936 * (S * (n * (n + 1))) + 2100 * n + 400 * m))
 stock-gap S n m projectStart beltStart r u s n-pos = near-gap 500 _ (s .total) (omega arith)
 
-reckoned-assured : (n m projectStart beltStart : ℕ) (r : Reckoning) (u : Unrounded) → Reckoned 13511 n m projectStart beltStart r u → Assured n m projectStart beltStart r u
+pub reckoned-assured : (n m projectStart beltStart : ℕ) (r : Reckoning) (u : Unrounded) → Reckoned 13511 n m projectStart beltStart r u → Assured n m projectStart beltStart r u
 reckoned-assured n m projectStart beltStart r u s = record {
   project = follows-assured n projectStart (r .project) (u .project) (s .project);
   belt = follows-assured n beltStart (r .belt) (u .belt) (s .belt);

@@ -15,10 +15,10 @@ use Rattle.classes.specs.Matrix.{optionOne, optionOneMatrix}
 use Rattle.classes.proofs.MatrixLaws.{option-one-rows}
 use Rattle.activity.specs.declared.Activity.{Activity}
 use Rattle.activity.specs.declared.Activity.the-variants.{Fuel, Vehicles, Nitrogen, Lime}
-use Rattle.activity.specs.Activity.{ActivityInRange}
+use Rattle.activity.specs.Activity.{ActivityInRange, ActivitiesInRange}
 use Rattle.figures.specs.Year.{Year}
 use Rattle.wire.specs.Bytes.{Bytes, bytes, bytesOfEach, joined, total}
-use Rattle.dossier.specs.Records.{headBytes, areasBytes, matrixBytes, MatrixUnder, Opening, OpeningInRange, optionBytes, openingBytes, Due, settled, next, conversionsBytes, activityBytes, All, YearInRange, yearBytes, YearsInRange, Dossier, DossierInRange, dossierBytes}
+use Rattle.dossier.specs.Records.{headBytes, areasBytes, matrixBytes, MatrixUnder, Opening, OpeningInRange, optionBytes, openingBytes, Due, settled, next, conversionsBytes, activityBytes, YearInRange, yearBytes, YearsInRange, Dossier, DossierInRange, dossierBytes}
 use Rattle.dossier.specs.Reader.{accepted}
 use Rattle.dossier.specs.Judging.{dossier}
 use Rattle.wire.proofs.BytesLaws.{length-bytes, length-each}
@@ -105,7 +105,7 @@ longestDossier = record {
   years = longestYears 20 2000;
 }
 
-all-alike : (n : ℕ) → All ActivityInRange (replicate n (Vehicles 1 0 0 0))
+all-alike : (n : ℕ) → ActivitiesInRange (replicate n (Vehicles 1 0 0 0))
 all-alike zero = tt
 all-alike (suc n) = (omega arith, all-alike n)
 

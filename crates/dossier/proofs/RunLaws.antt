@@ -9,9 +9,9 @@ use borrow.Author.Tests.{lt-ltb, ltb-true, ltb-false}
 use lib.Dec.{ltb}
 use lib.ListN.{length, length-append}
 use Rattle.activity.specs.declared.Activity.{Activity}
-use Rattle.activity.specs.Activity.{ActivityInRange}
+use Rattle.activity.specs.Activity.{ActivityInRange, ActivitiesInRange}
 use Rattle.wire.specs.Bytes.{Bytes, joined}
-use Rattle.dossier.specs.Records.{activityBytes, All}
+use Rattle.dossier.specs.Records.{activityBytes}
 use Rattle.dossier.specs.Reader.{refused, accepted, Reader, after, _>>=_, give, refuse, stands, upon}
 use Rattle.dossier.specs.JudgingRecords.{activityMark, activity}
 use Rattle.dossier.specs.Judging.{run, activities}
@@ -54,7 +54,7 @@ unfoldable pub runBytes : List Activity → List ℕ
 runBytes l = joined (map activityBytes l)
 
 -- records in range are read, and the run goes on at what follows them
-pub activities-continue : (before l : List Activity) (t : List ℕ) → length before + length l ≤ 60 → All ActivityInRange l → activities before (runBytes l ++ t) ≡ activities (before ++ l) t
+pub activities-continue : (before l : List Activity) (t : List ℕ) → length before + length l ≤ 60 → ActivitiesInRange l → activities before (runBytes l ++ t) ≡ activities (before ++ l) t
 unfolding runBytes joined
 activities-continue before [] t n p = rw append-nil
 activities-continue before (a ∷ l) t n p =
@@ -63,7 +63,7 @@ activities-continue before (a ∷ l) t n p =
     let x = activities-step before (activityBytes a ++ u) (omega arith) (begins-activity a u) (activity-exact .reads a u tt (p .0)) in
     rw append-assoc (x ∙ activities-continue (before ++ (a ∷ [])) l t m (p .1) ∙ ap (λ (r : List Activity). activities r t) (append-assoc before (a ∷ []) l))
 
-run-reads : (k : ℕ) (before l : List Activity) (t : List ℕ) → length l ≤ k → All ActivityInRange l → Over t → run k before (runBytes l ++ t) ≡ accepted (before ++ l) t
+run-reads : (k : ℕ) (before l : List Activity) (t : List ℕ) → length l ≤ k → ActivitiesInRange l → Over t → run k before (runBytes l ++ t) ≡ accepted (before ++ l) t
 unfolding run runBytes joined upon give _>>=_
 run-reads zero before [] t n p o = simp (o, append-nil)
 run-reads zero before (a ∷ l) t n p o = absurd (omega arith)
@@ -77,7 +77,7 @@ record Ran (k : ℕ) (before : List Activity) (s : List ℕ) (all : List Activit
   more : List Activity
   whole : all ≡ before ++ more
   count : length more ≤ k
-  each : All ActivityInRange more
+  each : ActivitiesInRange more
   over : Over t
   encoded : s ≡ runBytes more ++ t
 
@@ -117,7 +117,7 @@ run-only (suc k) before s bs all t q = go (stands activityMark s) refl q (λ a u
 
 -- a year's activity records, and no activity mark after them
 abbrev pub RunThen : List Activity → List ℕ → Type 0
-RunThen l t = (length l ≤ 60) × All ActivityInRange l × Over t
+RunThen l t = (length l ≤ 60) × ActivitiesInRange l × Over t
 
 pub activities-exact : Exact 0 Any (activities []) (λ l. joined (map activityBytes l)) RunThen
 unfolding activities runBytes

@@ -10,7 +10,7 @@ use Rattle.classes.specs.Calendar.{daysInYear}
 use Rattle.classes.specs.Matrix.{RowsSum}
 use Rattle.activity.specs.declared.Activity.{Activity}
 use Rattle.activity.specs.declared.Activity.the-variants.{Fuel, Vehicles, Nitrogen, Lime}
-use Rattle.activity.specs.Activity.{Within, ActivityInRange}
+use Rattle.activity.specs.Activity.{Within, ActivitiesInRange}
 use Rattle.figures.specs.Year.{Year}
 use Rattle.wire.specs.Bytes.{bytes, bytesOfEach, joined, total}
 use Rattle.dossier.specs.Marks.{HD, PA, DA, MP, YR, CP, CD, FU, VE, NI, LI, EN}
@@ -106,11 +106,6 @@ activityBytes (Vehicles kind count average rate) = joined (bytes 2 VE ∷ bytes 
 activityBytes (Nitrogen source crop grams content) = joined (bytes 2 NI ∷ bytes 1 source ∷ bytes 1 crop ∷ bytes 8 grams ∷ bytes 2 content ∷ [])
 activityBytes (Lime material grams) = joined (bytes 2 LI ∷ bytes 1 material ∷ bytes 8 grams ∷ [])
 
--- P holds of every entry
-abbrev pub All : {A : Type 0} → (A → Type 0) → List A → Type 0
-All P [] = Unit {0}
-All P (x ∷ xs) = P x × All P xs
-
 -- "YR with year and d, 16 bits each (from the first year on without a gap; d from 1 to D); CP and CD, ..; then 0 to 60 activity records", for what is due
 pub record YearInRange (due : Due) (y : Year) : Type 0 where
   pub left : 1 ≤ due .left
@@ -119,7 +114,7 @@ pub record YearInRange (due : Due) (y : Year) : Type 0 where
   pub conversions : ConversionsInRange (due .projectTotal) (y .conversions)
   pub beltConversions : ConversionsInRange (due .beltTotal) (y .beltConversions)
   pub count : length (y .activities) ≤ 60
-  pub activities : All ActivityInRange (y .activities)
+  pub activities : ActivitiesInRange (y .activities)
 
 unfoldable pub yearBytes : Year → List ℕ
 yearBytes y =

@@ -7,7 +7,6 @@ use native.Mathlib.Numerals.{add-one}
 use native.Mathlib.Omega.{arith}
 use lib.ListN.{replicate}
 use Rattle.arithmetic.specs.Sum.{sum}
-use Rattle.arithmetic.proofs.NearLaws.{near-≤ᶠ, near-gap}
 use Rattle.classes.specs.Classes.{emissionFactor, carbonStocks}
 use Rattle.classes.specs.Matrix.{RowsSum}
 use Rattle.figures.specs.Year.{Year}
@@ -15,7 +14,7 @@ use Rattle.figures.specs.Reckoning.{Reckoning, afterYear}
 use Rattle.figures.specs.Reckoning as R
 use Rattle.assurance.specs.Unrounded.{openedᶠ}
 use Rattle.assurance.specs.Assurance.{Assured}
-use Rattle.assurance.proofs.RegionLaws.{follows-assured}
+use Rattle.assurance.proofs.Assurance.{reckoned-assured}
 use Rattle.assurance.proofs.YearLaws.{Reckoned, opened-reckoned, year-reckoned}
 use Rattle.classes.proofs.FactorLaws.{factor-le, built-in-le}
 use Rattle.wire.specs.Bytes.{Bytes, total}
@@ -45,13 +44,7 @@ pub record Tracks (project belt : ℕ) (l : Ledger) (a : Account) : Type 0 where
   pub reckoned : Reckoned 13511 (a .years) (a .records) project belt (reckoningOf l) (a .unrounded)
 
 pub tracks-assured : {project belt : ℕ} (l : Ledger) (a : Account) → Tracks project belt l a → Assured (a .years) (a .records) project belt (reckoningOf l) (a .unrounded)
-tracks-assured {project} {belt} l a t =
-    let s = t .reckoned in
-    record {
-      project = follows-assured _ project (l .state .project) (a .unrounded .project) (s .project);
-      belt = follows-assured _ belt (l .state .belt) (a .unrounded .belt) (s .belt);
-      total = record { never-more = near-≤ᶠ (s .total); gap = λ n-pos. near-gap 5 _ (s .total) (omega arith); none = s .none };
-    }
+tracks-assured {project} {belt} l a t = reckoned-assured (a .years) (a .records) project belt (reckoningOf l) (a .unrounded) (t .reckoned)
 
 -- ---- the opening
 zero-reckoned : Reckoned 13511 0 0 0 0 (R.opened (units (replicate 12 0)) (units (replicate 12 0))) (openedᶠ (units (replicate 12 0)) (units (replicate 12 0)))

@@ -17,7 +17,6 @@ use Rattle.projection.specs.declared.Region.{Region}
 use Rattle.projection.specs.Projection.{areaTotal, projectedCarbon, SmallRegion, RowsWithin}
 use Rattle.projection.proofs.ProjectionLaws.{projected-carbon-le}
 use Rattle.activity.specs.declared.Activity.{Activity}
-use Rattle.activity.specs.Activity.{ActivityInRange, ActivitiesInRange}
 use Rattle.activity.proofs.ActivityLaws.{emissions-le}
 use Rattle.figures.specs.Year.{Terms, Year}
 use Rattle.figures.specs.Figures.{countedFactor}
@@ -25,7 +24,7 @@ use Rattle.figures.specs.Ranges.{SmallCarbon, SmallGrams}
 use Rattle.figures.specs.Reckoning.{regionReference, tableEmissions, yearFigures}
 use Rattle.figures.proofs.FiguresLaws.{FiguresSmall, figures-small, reference-small, emissions-small, monitored-small}
 use Rattle.wire.specs.Bytes.{total}
-use Rattle.dossier.specs.Records.{Due, DueInRange, ConversionsInRange, All, YearInRange}
+use Rattle.dossier.specs.Records.{Due, DueInRange, ConversionsInRange, YearInRange}
 use Rattle.dossier.proofs.LoopLaws.{total-entries}
 
 factor-le : (i j : ℕ) → emissionFactor carbonStocks i j ≤ 65535
@@ -44,10 +43,6 @@ counted-le option i j = go (eqb option 1) (eqb j NF)
     go true true = factor-le i j
     go true false = omega arith
     go false c = factor-le i j
-
-all-activities : (l : List Activity) → All ActivityInRange l → ActivitiesInRange l
-all-activities [] h = tt
-all-activities (a ∷ l) h = (h .0, all-activities l (h .1))
 
 -- by the built-in stocks, and a matrix whose rows sum to at most 1,000,000
 module _ (option : ℕ) (matrix : List ℕ) (rows : RowsWithin matrix) (due : Due) (settled : DueInRange due) (y : Year) (h : YearInRange due y) where
@@ -71,6 +66,6 @@ module _ (option : ℕ) (matrix : List ℕ) (rows : RowsWithin matrix) (due : Du
   figures-range project belt p b = figures-small _ _ _ _ _
       (reference-range project p)
       (table-range (due .projectTotal) (y .conversions) (settled .projectTotal) (h .conversions))
-      (omega (arith, h .count, emissions-le (y .activities) (all-activities (y .activities) (h .activities))))
+      (omega (arith, h .count, emissions-le (y .activities) (h .activities)))
       (table-range (due .beltTotal) (y .beltConversions) (settled .beltTotal) (h .beltConversions))
       (reference-range belt b)

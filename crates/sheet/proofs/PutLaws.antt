@@ -51,6 +51,10 @@ put-start {l} {m} {s} {j} h p =
     let k : 0 + length s ≡ j = omega (arith, p .place) in
     (e, p .content ∙ rw k at (sets-eq s l 0 (omega arith)))
 
+-- so a text that begins a list ends inside it
+pub written-inside : (text old : List ℕ) {new : List ℕ} {n : ℕ} → n ≡ length text → new ≡ text ++ drop n old → n ≤ length new
+written-inside text old {new} {n} e f = omega (arith, e, ap length f ∙ length-append text (drop n old))
+
 -- of a text copied byte by byte, i bytes stand: one more byte, and none left
 pub copied-more : {l m : List ℕ} {at : ℕ} (text : List ℕ) (i : ℕ) → i < length text → Rest l at text m (at + i) (drop i text)
     → Rest l at text (set m (at + i) (getD text i 0)) (at + (i + 1)) (drop (i + 1) text)

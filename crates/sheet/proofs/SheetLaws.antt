@@ -11,6 +11,7 @@ use borrow.Author.Tests.{ltb-true, ltb-false, lt-ltb, le-ltb}
 use Rattle.wire.specs.Bytes.{fieldAt}
 use Rattle.wire.specs.Signed.{signed, figureAt}
 use Rattle.sheet.specs.Decimal.{decimal, decimalOf}
+use Rattle.sheet.specs.CallLine.{callLine}
 use Rattle.sheet.specs.Sheet.{spaced, yearLine, yearLines, totalLine, header, sheetOf, refusalOf}
 use Rattle.sheet.proofs.DecimalLaws.{length-decimal}
 
@@ -93,3 +94,8 @@ length-sheet first n result h g =
 pub length-refusal : (n : ℕ) → n < 256 → length (refusalOf n) ≤ 4096
 unfolding refusalOf
 length-refusal n h = simp length-append (omega (arith, length-decimal 2 n (omega arith)))
+
+pub length-call : (word : List ℕ) (n k : ℕ) (result : List ℕ) → length word ≤ 100 → n < 256 → k ≤ 164 → length (callLine word n k result) ≤ 4096
+unfolding callLine
+length-call word n k result h g f =
+    simp length-append (omega (arith, length-decimal 2 n (omega arith), length-spaced k result 0))

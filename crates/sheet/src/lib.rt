@@ -6,6 +6,7 @@ ghost use lib.ListN.{length, drop};
 ghost use Rattle.wire.specs.Signed.{signed};
 ghost use Rattle.sheet.specs.Decimal.{decimal, decimalOf};
 ghost use Rattle.sheet.specs.Put.{Put};
+ghost use Rattle.sheet.specs.CallLine.{callLine};
 ghost use Rattle.sheet.specs.Sheet.{spaced, yearLine, yearLines, totalLine, sheetOf, refusalOf};
 
 // Each writer puts its text at a place and answers the place after it. It asks for room for the longest text.
@@ -139,4 +140,16 @@ pub fn write_refusal(n: u64, out: &mut [u8]) -> usize
     let word = put_text(out, 0, b"refused ");
     let number = put_decimal(out, word, n);
     put_byte(out, number, b'\n')
+}
+
+// The line of a call, for testers: its word, its number and the first k figures of a result; the number of bytes written.
+pub fn write_call(word: &[u8], n: u64, k: u64, result: &[u8], out: &mut [u8]) -> usize
+    requires { ⌜ (length (now word) ≤ 100) × (n < 256) × (k ≤ 164) × (8 * k ≤ length (now result)) × (4096 ≤ length (now out)) ⌝ }
+    ensures { λ r. ⌜ (r ≡ length (callLine (now (word .entry)) n k (now (result .entry)))) × (now (out .exit) ≡ callLine (now (word .entry)) n k (now (result .entry)) ++ drop r (now (out .entry))) ⌝ }
+{
+    let after_word = put_text(out, 0, word);
+    let after_space = put_byte(out, after_word, b' ');
+    let after_number = put_decimal(out, after_space, n);
+    let after_figures = put_spaced(out, after_number, k, result, 0);
+    put_byte(out, after_figures, b'\n')
 }

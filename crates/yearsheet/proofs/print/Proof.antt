@@ -1,17 +1,10 @@
-use mathlib.Core.Path.{_≡_, _∙_, ap, sym}
-use mathlib.Core.List.{List, _++_}
-use Prim.Native.Nat.{ℕ, _≤_}
-use native.Mathlib.Omega.{arith}
-use lib.ListN.{length, drop, length-append}
+use mathlib.Core.Path.{sym}
 use lib.Seq.{length-take-le}
 use borrow.Author.Needs.{needs}
+use Rattle.sheet.proofs.PutLaws.{written-inside}
 use Rattle.printout.specs.Printout.{printout}
 use Rattle.yearsheet.proofs.print.Statement.{statement}
 use Rattle.yearsheet.proofs.print.Tie as tie
-
--- a text that begins a list ends inside it
-written-inside : (text old : List ℕ) {new : List ℕ} {n : ℕ} → n ≡ length text → new ≡ text ++ drop n old → n ≤ length new
-written-inside text old {new} {n} e f = omega (arith, e, ap length f ∙ length-append text (drop n old))
 
 buffer-requires : tie.Need-buffer-requires
 buffer-requires c κs = search needs

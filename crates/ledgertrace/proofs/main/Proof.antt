@@ -1,0 +1,51 @@
+-- `ledgertrace::main` meets its contract: every call gets a ledger that the calls handed back, and the list ends.
+-- Assumes nothing.
+use Prim.Native.Nat.{_<_}
+use mathlib.Core.Path.{sym}
+use native.Mathlib.Omega.{arith}
+use borrow.Author.Needs.{needs}
+use Rattle.ledgertrace.specs.Trace.{Traced}
+use Rattle.ledgertrace.proofs.TraceLaws.{opened-none}
+use Rattle.ledgertrace.proofs.main.Statement.{statement}
+use Rattle.ledgertrace.proofs.main.Tie as tie
+
+abbrev Inv-loop : tie.InvT-loop
+Inv-loop trace₀ trace = Traced trace
+
+abbrev μ-loop : tie.MeasureT-loop
+μ-loop trace₀ trace = trace .left
+
+slice-aggregate-open : tie.Need-slice-aggregate-open Inv-loop μ-loop
+slice-aggregate-open c = search needs
+
+open-requires : tie.Need-open-requires Inv-loop μ-loop
+open-requires c κs = search needs
+
+loop-holds : tie.Need-loop-holds Inv-loop μ-loop
+loop-holds c = record { handedBack = c .before .«open» .ensures .1; counted = sym (opened-none _ _ (c .before .«open» .ensures .0)) }
+
+trace-call-requires : tie.Need-trace-call-requires Inv-loop μ-loop
+trace-call-requires c κs = search needs
+
+loop-less : tie.Need-loop-less Inv-loop μ-loop
+loop-less c = search needs
+
+loop-again : tie.Need-loop-again Inv-loop μ-loop
+loop-again c = search needs
+
+returns : tie.Need-returns Inv-loop μ-loop
+returns c = search needs
+
+pub main-spec : {M : Type 1} → statement M
+main-spec =
+    tie.close
+    (tie.spec
+    Inv-loop
+    μ-loop
+    slice-aggregate-open
+    open-requires
+    loop-holds
+    trace-call-requires
+    loop-less
+    loop-again
+    returns)

@@ -1,0 +1,103 @@
+// Makes the calls that standard input lists on one ledger, and prints a line for each: for testers.
+//
+// A call is `O` or `Y`, a 32-bit length up to 65,536 and that many bytes; or `C` and the 32-bit length of a buffer, up to
+// 65,536. Before any `O` the ledger is the empty one. The list ends where a call is cut or is none of these.
+use reckoner::Answer;
+use reckoner::Ledger;
+use reckoner::Step;
+ghost use Prim.Native.Nat.{_<_};
+ghost use mathlib.Core.Path.{_≡_};
+ghost use Rattle.ledgertrace.specs.Trace.{Traced};
+
+// The ledger, how many years it was given, and how many more calls the list may have: none once it has ended.
+struct Trace {
+    ledger: Ledger,
+    given: u64,
+    left: u64,
+}
+
+fn trace_open(mut trace: Trace, piece: &[u8]) -> Trace
+    ensures { λ r. ⌜ Traced r × (r .left ≡ trace .left) ⌝ }
+{
+    let step = Ledger::open(piece);
+    let ledger = step.ledger;
+    let answer = step.answer;
+    trace.ledger = ledger;
+    trace.given = 0;
+    match answer {
+        Answer::Refused(n) => console::print_call(b"open", n as u64, 0, piece),
+        Answer::Accepted => console::print_call(b"open", 0, 0, piece),
+    }
+    trace
+}
+
+fn trace_year(mut trace: Trace, piece: &[u8]) -> Trace
+    requires { ⌜ Traced trace ⌝ }
+    ensures { λ r. ⌜ Traced r × (r .left ≡ trace .left) ⌝ }
+{
+    let before = trace.ledger;
+    let step = before.year(piece);
+    let ledger = step.ledger;
+    let answer = step.answer;
+    trace.ledger = ledger;
+    match answer {
+        Answer::Refused(n) => console::print_call(b"year", n as u64, 0, piece),
+        Answer::Accepted => {
+            trace.given = trace.given + 1;
+            console::print_call(b"year", 0, 0, piece);
+        }
+    }
+    trace
+}
+
+fn trace_close(trace: Trace, result: &mut [u8]) -> Trace
+    requires { ⌜ Traced trace ⌝ }
+    ensures { λ r. ⌜ r ≡ trace ⌝ }
+{
+    let ledger = trace.ledger;
+    let step = ledger.close(result);
+    let answer = step.answer;
+    match answer {
+        Answer::Refused(n) => console::print_call(b"close", n as u64, 0, result),
+        Answer::Accepted => console::print_call(b"close", 0, 8 * trace.given + 4, result),
+    }
+    trace
+}
+
+// The next call of the list, if it is whole.
+fn trace_call(mut trace: Trace) -> Trace
+    requires { ⌜ Traced trace × (0 < trace .left) ⌝ }
+    ensures { λ r. ⌜ Traced r × (r .left < trace .left) ⌝ }
+{
+    let mark = console::read_byte();
+    let length = console::read_length();
+    let mut space = io::large_buffer();
+    trace.left = trace.left - 1;
+    if length <= 65536 {
+        if mark == b'C' {
+            return trace_close(trace, &mut space[..length]);
+        }
+        let is_whole = console::read_piece(&mut space[..length]);
+        if is_whole && mark == b'O' {
+            return trace_open(trace, &space[..length]);
+        }
+        if is_whole && mark == b'Y' {
+            return trace_year(trace, &space[..length]);
+        }
+    }
+    trace.left = 0;
+    trace
+}
+
+fn main() {
+    let step = Ledger::open(b"");
+    let ledger = step.ledger;
+    let mut trace = Trace {
+        ledger,
+        given: 0,
+        left: u64::MAX,
+    };
+    while trace.left > 0 {
+        trace = trace_call(trace);
+    }
+}

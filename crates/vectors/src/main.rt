@@ -1,0 +1,51 @@
+// Reckons the dossiers of a list on standard input and prints a line for each: what the stored vectors are tried with.
+//
+// A vector is a label of up to 100 bytes and a dossier of up to 65,536, each after its 32-bit length, and the 32-bit
+// length of a buffer, up to 1,312. The list ends where a vector is cut or longer.
+use libc::STDOUT_FILENO;
+ghost use Prim.Native.Nat.{_≤_};
+ghost use lib.ListN.{length};
+
+// The label and the number; of an accepted dossier the buffer as figures, of a refused one what became of the buffer.
+fn print_vector(label: &[u8], dossier: &[u8], room: usize)
+    requires { ⌜ (length (now label) ≤ 100) × (room ≤ 1312) ⌝ }
+{
+    let lent = [165u8; 1312];
+    let mut result = [165u8; 1312];
+    let n = reckoner::reckon(dossier, &mut result[..room]);
+    if n == 0 {
+        console::print_call(label, 0, (room / 8) as u64, &result);
+        return;
+    }
+    console::print_call(label, n as u64, 0, &result);
+    if !check::same(&result, &lent) {
+        io::write_all(STDOUT_FILENO, b"a refusal that changed the buffer\n");
+    }
+}
+
+// The next vector of the list; whether there was one.
+fn try_vector() -> bool {
+    let mut label = [0u8; 100];
+    let mut dossier = io::large_buffer();
+    let label_length = console::read_length();
+    if 100 < label_length || !console::read_piece(&mut label[..label_length]) {
+        return false;
+    }
+    let dossier_length = console::read_length();
+    if 65536 < dossier_length || !console::read_piece(&mut dossier[..dossier_length]) {
+        return false;
+    }
+    let room = console::read_length();
+    if 1312 < room {
+        return false;
+    }
+    print_vector(&label[..label_length], &dossier[..dossier_length], room);
+    true
+}
+
+fn main() {
+    let mut left = u64::MAX;
+    while left > 0 && try_vector() {
+        left -= 1;
+    }
+}
