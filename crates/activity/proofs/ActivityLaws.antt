@@ -1,7 +1,7 @@
 -- The bounds of an activity record's grams and of their sum, for records in range.
 -- Assumes nothing.
 use mathlib.Core.List.{List, [], _∷_}
-use Prim.Native.Nat.{ℕ, _+_, _*_, _≤_, _<_}
+use Prim.Native.Nat.{ℕ, _*_, _≤_, _<_}
 use native.Mathlib.Nat.{mul-le-mul, mul-assoc}
 use native.Mathlib.Omega.{arith}
 use lib.Dec.{T, leb, leb→le, lit≤}

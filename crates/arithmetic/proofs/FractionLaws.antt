@@ -1,9 +1,9 @@
 -- Laws of fractions. Each is a fact of naturals, by the parts of the numerators.
 -- Assumes nothing.
-use mathlib.Core.Path.{_≡_, refl, ap}
+use mathlib.Core.Path.{_≡_, refl}
 use Prim.Native.Nat.{ℕ, _+_, _*_, _≤_, _<_}
 use native.Mathlib.Omega.{arith}
-use lib.IntN.{ℤ, pos, negsuc, _+ℤ_, _*ℤ_}
+use lib.IntN.{ℤ, pos, negsuc, _*ℤ_}
 use Rattle.arithmetic.specs.Rounding.{positivePart}
 use Rattle.arithmetic.specs.Fraction.{Fraction, _≤ᶠ_, _<ᶠ_, _+ᶠ_}
 use Rattle.arithmetic.proofs.IntegerLaws.{above, below, parts-le, parts-lt, add-parts, mul-above, mul-below}

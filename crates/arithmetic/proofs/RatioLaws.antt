@@ -7,7 +7,7 @@ use native.Mathlib.Omega.{arith}
 use lib.IntN.{ℤ, pos, negsuc, _+ℤ_, _*ℤ_}
 use Rattle.arithmetic.specs.Fraction.{Fraction, _≤ᶠ_, whole, _+ᶠ_, _×ᶠ_, _÷ᶠ_by_, sumᶠ}
 use Rattle.arithmetic.specs.Sum.{sum}
-use Rattle.arithmetic.proofs.IntegerLaws.{above, below, mul-above, mul-below}
+use Rattle.arithmetic.proofs.IntegerLaws.{below, mul-above, mul-below}
 use Rattle.arithmetic.proofs.FractionLaws.{over, under, sum-parts, sum-den, parts-≤ᶠ}
 
 -- x is a over n

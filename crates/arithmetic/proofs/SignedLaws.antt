@@ -1,8 +1,8 @@
 -- Signed numbers of 64 bits below 0 and from 0 on, as the code reads them back. (`mag` is n both of n and of -(n + 1).)
 -- Assumes nothing.
 use mathlib.Core.Path.{_≡_, refl, _∙_}
-use mathlib.Core.Bool.{Bool, true, false}
-use Prim.Native.Nat.{ℕ, _+_, _^_, _≤_, _<_}
+use mathlib.Core.Bool.{true, false}
+use Prim.Native.Nat.{ℕ, _^_, _<_}
 use native.Mathlib.Omega.{arith}
 use lib.IntN.{ℤ, pos, negsuc, negℤ, _-ℤ_}
 use lib.Signed.{mag, ltZ}

@@ -1,8 +1,8 @@
 -- The marked examples hold, by computation from the definitions that the contracts cite.
 -- Assumes nothing.
 use mathlib.Core.Path.{_≡_, refl}
-use mathlib.Core.List.{List, map}
-use lib.IntN.{ℤ, pos, _*ℤ_}
+use mathlib.Core.List.{map}
+use lib.IntN.{pos, _*ℤ_}
 use Rattle.arithmetic.specs.Sum.{sum, listed}
 use Rattle.arithmetic.specs.Rounding.{ceilDiv, floorDiv}
 use Rattle.arithmetic.specs.Fraction.{Fraction, whole, _+ᶠ_, _-ᶠ_, negᶠ, _×ᶠ_, _÷ᶠ_by_, ifPositive, sumᶠ}

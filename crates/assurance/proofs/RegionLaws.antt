@@ -1,6 +1,6 @@
 -- The rounded and the unrounded projection of a region side by side, for any area list and any matrix whose rows sum to 1,000,000.
 -- Assumes nothing.
-use mathlib.Core.Path.{_≡_, refl, sym, ap, _∙_}
+use mathlib.Core.Path.{_≡_, ap}
 use mathlib.Core.List.{List}
 use Prim.Native.Nat.{ℕ, suc, _+_, _*_, _≤_, _<_}
 use native.Mathlib.Nat.{zero-lt-suc, mul-le-mul-right, mul-pos, le-of-eq}

@@ -7,9 +7,9 @@ use native.Mathlib.Nat.{add-zero, add-suc, suc-add, add-assoc, mul-assoc, zero-l
 use native.Mathlib.Omega.{arith}
 use lib.Dec.{lit<}
 use lib.ListN.{length}
-use lib.IntN.{ℤ, pos, _+ℤ_, _-ℤ_}
-use Rattle.arithmetic.specs.Rounding.{ceilDiv, positivePart}
-use Rattle.arithmetic.specs.Fraction.{Fraction, whole, _+ᶠ_, _-ᶠ_, _×ᶠ_, _÷ᶠ_by_, ifPositive}
+use lib.IntN.{pos}
+use Rattle.arithmetic.specs.Rounding.{ceilDiv}
+use Rattle.arithmetic.specs.Fraction.{Fraction, whole}
 use Rattle.arithmetic.proofs.RoundingLaws.{ceilDiv-is}
 use Rattle.arithmetic.proofs.RatioLaws.{Ratio, ratio-natural, ratio-times, ratio-divided, ratio-quotient}
 use Rattle.arithmetic.proofs.NearLaws.{Near, near-sum, near-minus, near-positive, near-wider, near-ratio}
@@ -25,7 +25,7 @@ use Rattle.activity.specs.declared.Activity.{Activity}
 use Rattle.activity.specs.Activity.{numerator, denominator, activityGrams, activityEmissions}
 use Rattle.activity.proofs.ActivityLaws.{denominator-pos}
 use Rattle.figures.specs.Year.{Terms, Year}
-use Rattle.figures.specs.Figures.{referenceLevel, monitoredCarbon, countedFactor, stockChangeEmissions, displacedEmissions, reductionOf, creditedOf, figuresOf}
+use Rattle.figures.specs.Figures.{referenceLevel, stockChangeEmissions, displacedEmissions, reductionOf, figuresOf}
 use Rattle.figures.specs.Reckoning.{regionReference, tableEmissions, yearFigures, Reckoning, opened, afterYear, afterYears, DaysAllowed, recordCount}
 use Rattle.assurance.specs.Unrounded.{Unrounded, openedᶠ, referenceᶠ, emissionsᶠ, activityᶠ, displacedᶠ, reductionᶠ, creditedᶠ, afterYearᶠ, afterYearsᶠ}
 use Rattle.assurance.proofs.RegionLaws.{Follows, opened-follows, year-follows, carbon-over, carbon-ratio, carbon-low, carbon-high}

@@ -10,7 +10,6 @@ use Rattle.classes.specs.Matrix.{optionOneMatrix}
 use Rattle.classes.specs.Calendar.{daysInYear}
 use Rattle.projection.specs.declared.Region.{Region}
 use Rattle.projection.specs.Projection.{area, openedRegion, projectedRegion}
-use Rattle.activity.specs.declared.Activity.{Activity}
 use Rattle.activity.specs.declared.Activity.the-variants.{Fuel, Nitrogen, Lime}
 use Rattle.activity.specs.Activity.{activityGrams}
 use Rattle.figures.specs.declared.Figures.{Figures}

@@ -1,7 +1,7 @@
 -- Document 01, "A year's figures": the days of a Gregorian year.
 -- Assumes nothing.
 use Prim.Native.Nat.{ℕ, _%_}
-use mathlib.Core.Bool.{Bool, cond}
+use mathlib.Core.Bool.{cond}
 use lib.Dec.{eqb}
 
 -- a leap year is one that 4 divides, but not 100, or 400 does

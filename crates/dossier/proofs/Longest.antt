@@ -15,7 +15,7 @@ use Rattle.classes.specs.Matrix.{optionOne, optionOneMatrix}
 use Rattle.classes.proofs.MatrixLaws.{option-one-rows}
 use Rattle.activity.specs.declared.Activity.{Activity}
 use Rattle.activity.specs.declared.Activity.the-variants.{Fuel, Vehicles, Nitrogen, Lime}
-use Rattle.activity.specs.Activity.{ActivityInRange, ActivitiesInRange}
+use Rattle.activity.specs.Activity.{ActivitiesInRange}
 use Rattle.figures.specs.Year.{Year}
 use Rattle.wire.specs.Bytes.{Bytes, bytes, bytesOfEach, joined, total}
 use Rattle.dossier.specs.Records.{headBytes, areasBytes, matrixBytes, MatrixUnder, Opening, OpeningInRange, optionBytes, openingBytes, Due, settled, next, conversionsBytes, activityBytes, YearInRange, yearBytes, YearsInRange, Dossier, DossierInRange, dossierBytes}

@@ -1,7 +1,7 @@
 -- Document 01, "A year's figures", in grams of CO2. d = operating days, D = days of that Gregorian year.
 -- Assumes nothing.
 use Prim.Native.Nat.{ℕ, _*_, _/_}
-use mathlib.Core.Bool.{Bool, cond}
+use mathlib.Core.Bool.{cond}
 use mathlib.Core.List.{List}
 use lib.Dec.{eqb}
 use lib.IntN.{ℤ, pos, negsuc, _-ℤ_, _*ℤ_}

@@ -1,6 +1,6 @@
 -- What the number of the whole call and the opening say of the printout.
 -- Assumes nothing.
-use Prim.Native.Nat.{ℕ, _+_, _*_, _≤_, _<_}
+use Prim.Native.Nat.{ℕ, _≤_, _<_}
 use mathlib.Core.Path.{_≡_, refl, _∙_, ap, sym}
 use mathlib.Core.List.{List, []}
 use native.Mathlib.Omega.{arith}

@@ -1,13 +1,12 @@
 -- The projection of any twelve areas: ranges, and what is kept.
 -- Assumes nothing.
-use mathlib.Core.Path.{_≡_, refl, sym, ap, _∙_}
+use mathlib.Core.Path.{_≡_, ap, _∙_}
 use mathlib.Core.List.{List}
-use Prim.Native.Nat.{ℕ, _+_, _-_, _*_, _/_, _≤_, _<_}
+use Prim.Native.Nat.{ℕ, _+_, _-_, _*_, _≤_, _<_}
 use native.Mathlib.Nat.{zero-lt-suc, le-trans, mul-le-mul-left, mul-le-mul-right, mul-comm, le-of-eq, div-le-of-le-mul}
 use native.Mathlib.Omega.{arith}
-use lib.ListN.{getD}
-use Rattle.arithmetic.specs.Sum.{sum, listed}
-use Rattle.arithmetic.proofs.SumLaws.{sum-cong, sum-le, sum-mul, sum-part, sum-next, sum-swap, term-le, getD-listed, sum2}
+use Rattle.arithmetic.specs.Sum.{sum}
+use Rattle.arithmetic.proofs.SumLaws.{sum-cong, sum-le, sum-mul, sum-part, sum-next, sum-swap, term-le, getD-listed}
 use Rattle.classes.specs.declared.AreaUnits.{AreaUnits}
 use Rattle.classes.specs.Classes.{classes}
 use Rattle.classes.specs.Matrix.{entry, million}

@@ -9,7 +9,6 @@ use lib.Dec.{ltb}
 use lib.ListN.{length, take, drop, length-drop}
 use borrow.Author.Tests.{lt-ltb, le-ltb, eq-eqb, ne-eqb}
 use Rattle.wire.specs.Bytes.{number, fieldAt}
-use Rattle.wire.specs.Signed.{written}
 use Rattle.dossier.specs.Marks.{YR, EN}
 use Rattle.dossier.specs.Reader.{refused, accepted, _>>_, refuse, mark, is, upon, nothing}
 use Rattle.dossier.specs.Judging.{noneLeft, end, bufferNumber}
@@ -17,7 +16,6 @@ use Rattle.cursor.proofs.AtLaws.{begin-cut, begin-whole, stands-short, stands-h
 use Rattle.reckoner.specs.declared.Ledger.{Ledger}
 use Rattle.reckoner.specs.declared.Answer.{Answer}
 use Rattle.reckoner.specs.declared.Step.{Step}
-use Rattle.reckoner.specs.Ledger.{report}
 use Rattle.reckoner.specs.Calls.{closeCall, closedBuffer, endSays, thenNumber, thenBuffer}
 
 no-more : (l : List ℕ) → length l ≤ 0 → l ≡ []

@@ -1,7 +1,6 @@
 -- An opening from what the code reads: the ledger that it makes, the piece's end, or the rest of a dossier.
 -- Assumes nothing.
 use mathlib.Core.Path.{_≡_, refl, _∙_, ap, sym}
-use mathlib.Core.Option.{Option}
 use mathlib.Core.List.{List, [], _∷_}
 use Prim.Native.Nat.{ℕ, _-_, _≤_, _<_}
 use lib.ListN.{length, drop}

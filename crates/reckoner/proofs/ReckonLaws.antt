@@ -12,12 +12,11 @@ use Rattle.classes.specs.Classes.{carbonStocks, emissionFactor}
 use Rattle.classes.specs.Matrix.{entry, tableOf}
 use Rattle.figures.specs.Year.{Year}
 use Rattle.figures.specs.Figures.{countedFactor}
-use Rattle.dossier.specs.Records.{Due, next as dueNext, YearInRange}
+use Rattle.dossier.specs.Records.{Due, next as dueNext}
 use Rattle.dossier.specs.Reader.{Judged, refused, accepted, after, _>>=_, _>>_, give}
 use Rattle.dossier.specs.Judging.{year, end, years}
 use Rattle.dossier.proofs.YearLaws.{year-exact}
 use Rattle.dossier.proofs.Places.{years-step}
-use Rattle.reckoning.specs.declared.State.{State}
 use Rattle.reckoning.specs.declared.Advanced.{Advanced}
 use Rattle.reckoning.specs.declared.StepAnswer.{StepAnswer}
 use Rattle.reckoning.specs.declared.Stepped.{Stepped}
@@ -27,7 +26,7 @@ use Rattle.reckoner.specs.declared.Ledger.{Ledger}
 use Rattle.reckoner.specs.Ledger.{openedWith, openedLedger, NewlyOpened, termsOf, dueOf, withAdvanced, givenYear, givenYears}
 use Rattle.reckoner.specs.Calls.{yearsToCome, thenNumber, thenBuffer}
 use Rattle.reckoner.proofs.Invariant.{LedgerKept, due-kept, opened-kept, given-kept}
-use Rattle.reckoner.proofs.YearLaws.{Given, none-given, one-given, next-inside}
+use Rattle.reckoner.proofs.YearLaws.{none-given, one-given, next-inside}
 
 -- ---- one year more
 given-more : (ys : List Year) (y : Year) (l : Ledger) → givenYears (ys ++ (y ∷ [])) l ≡ givenYear y (givenYears ys l)

@@ -20,8 +20,6 @@ use Rattle.dossier.specs.Reader.{Judged, refused, accepted, after, _>>=_, _>>_,
 use Rattle.dossier.specs.Judging.{noneLeft, yearDue, year, yearPiece}
 use Rattle.dossier.proofs.YearLaws.{none-left-only}
 use Rattle.cursor.proofs.AtLaws.{bind-no, bind-yes, end-lone, end-beyond, end-here}
-use Rattle.reckoning.specs.declared.State.{State}
-use Rattle.reckoning.specs.declared.Advanced.{Advanced}
 use Rattle.reckoning.specs.declared.StepAnswer.{StepAnswer}
 use Rattle.reckoning.specs.declared.Stepped.{Stepped}
 use Rattle.reckoning.specs.Step.{yearAdvanced, steppedYear, stepSays, stepInside}

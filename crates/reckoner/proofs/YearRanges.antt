@@ -1,9 +1,8 @@
 -- The figures of a year in range are far within 64 bits.
 -- Assumes nothing.
-use Prim.Native.Nat.{ℕ, _+_, _-_, _≤_, _<_}
-use mathlib.Core.Path.{_≡_}
+use Prim.Native.Nat.{ℕ, _-_, _≤_}
 use mathlib.Core.Bool.{Bool, true, false, cond, _||_}
-use mathlib.Core.List.{List, [], _∷_}
+use mathlib.Core.List.{List}
 use native.Mathlib.Nat.{le-trans, mul-le-mul-right}
 use native.Mathlib.Omega.{arith}
 use lib.Dec.{eqb}
@@ -16,14 +15,12 @@ use Rattle.classes.proofs.CalendarLaws.{days-range}
 use Rattle.projection.specs.declared.Region.{Region}
 use Rattle.projection.specs.Projection.{areaTotal, projectedCarbon, SmallRegion, RowsWithin}
 use Rattle.projection.proofs.ProjectionLaws.{projected-carbon-le}
-use Rattle.activity.specs.declared.Activity.{Activity}
 use Rattle.activity.proofs.ActivityLaws.{emissions-le}
 use Rattle.figures.specs.Year.{Terms, Year}
 use Rattle.figures.specs.Figures.{countedFactor}
 use Rattle.figures.specs.Ranges.{SmallCarbon, SmallGrams}
 use Rattle.figures.specs.Reckoning.{regionReference, tableEmissions, yearFigures}
 use Rattle.figures.proofs.FiguresLaws.{FiguresSmall, figures-small, reference-small, emissions-small, monitored-small}
-use Rattle.wire.specs.Bytes.{total}
 use Rattle.dossier.specs.Records.{Due, DueInRange, ConversionsInRange, YearInRange}
 use Rattle.dossier.proofs.LoopLaws.{total-entries}
 

@@ -1,7 +1,6 @@
 -- Document 01, "Calls and sheet": what each call answers, hands back and writes.
 -- Assumes nothing.
 use Prim.Native.Nat.{ℕ, _+_, _*_}
-use mathlib.Core.Path.{_≡_}
 use mathlib.Core.Bool.{cond}
 use mathlib.Core.List.{List, []}
 use lib.Dec.{ltb, eqb}

@@ -1,21 +1,18 @@
 -- Document 01, "Calls and sheet": the ledger, what an opening and a year make of it, and what closing reports.
 -- Assumes nothing.
-use Prim.Native.Nat.{ℕ, _+_, _*_, _^_, _≤_, _<_}
+use Prim.Native.Nat.{ℕ, _+_, _^_, _≤_, _<_}
 use mathlib.Core.Path.{_≡_}
-use mathlib.Core.List.{List, [], _∷_, _++_, map}
-use mathlib.Core.Option.{Option, none, some}
+use mathlib.Core.List.{List, [], _∷_, map}
 use lib.IntN.{ℤ, pos}
 use lib.ListN.{set, replicate}
 use Rattle.wire.specs.Bytes.{total}
 use Rattle.classes.specs.declared.AreaUnits.{AreaUnits}
 use Rattle.classes.specs.Classes.{carbonStocks}
-use Rattle.classes.specs.Matrix.{optionOneMatrix}
 use Rattle.projection.specs.Projection.{openedRegion}
 use Rattle.figures.specs.declared.Figures.{Figures}
 use Rattle.figures.specs.Year.{Terms, Year}
 use Rattle.dossier.specs.Records.{Opening, OpeningInRange, Due, Dossier}
 use Rattle.opening.specs.Answers.{matrixInUse}
-use Rattle.reckoning.specs.declared.State.{State}
 use Rattle.reckoning.specs.declared.Advanced.{Advanced}
 use Rattle.reckoning.specs.Step.{yearAdvanced}
 use Rattle.report.specs.Report.{reported}

@@ -1,11 +1,11 @@
 -- A year reckoned from its summary: ranges, and the whole of what it makes.
 -- Assumes nothing.
-use mathlib.Core.Path.{_≡_, refl, _∙_, ap, sym}
+use mathlib.Core.Path.{_≡_, _∙_, ap}
 use mathlib.Core.List.{List}
 use Prim.Native.Nat.{ℕ, _+_, _-_, _*_, _^_, _≤_, _<_}
 use native.Mathlib.Nat.{le-trans, mul-le-mul-right}
 use native.Mathlib.Omega.{arith}
-use lib.IntN.{ℤ, pos, _+ℤ_}
+use lib.IntN.{ℤ, _+ℤ_}
 use lib.Signed.{mag}
 use mir.Syntax.{w64}
 use mir.Val.{SFits}
@@ -18,16 +18,14 @@ use Rattle.classes.specs.Calendar.{daysInYear}
 use Rattle.classes.proofs.CalendarLaws.{days-range}
 use Rattle.projection.specs.declared.Region.{Region}
 use Rattle.projection.specs.declared.Projected.{Projected}
-use Rattle.projection.specs.Projection.{areaTotal, projectedCarbon, projectedRegion, projectedYear, SmallRegion, RowsWithin, FactorsFit}
+use Rattle.projection.specs.Projection.{areaTotal, projectedYear, SmallRegion, RowsWithin, FactorsFit}
 use Rattle.projection.proofs.ProjectionLaws.{projected-carbon-le}
 use Rattle.figures.specs.declared.Figures.{Figures}
-use Rattle.figures.specs.declared.YearCarbon.{YearCarbon}
 use Rattle.figures.specs.Ranges.{SmallCarbon, SmallYear, SmallGrams}
 use Rattle.figures.proofs.FiguresLaws.{figuresOfYear, credited-small}
-use Rattle.years.specs.Answers.{Summary}
 use Rattle.reckoning.specs.declared.State.{State}
 use Rattle.reckoning.specs.declared.Advanced.{Advanced}
-use Rattle.reckoning.specs.Step.{afterFigures, summaryFigures, summaryAdvanced, SmallState}
+use Rattle.reckoning.specs.Step.{afterFigures, summaryFigures, summaryAdvanced}
 
 -- the carbon of a small region is small
 pub carbon-small : (matrix factors : List ℕ) (region : Region) (r : Projected) → RowsWithin matrix → FactorsFit factors → SmallRegion region → r ≡ projectedYear (entry factors) matrix region → SmallCarbon (r .carbon .0)

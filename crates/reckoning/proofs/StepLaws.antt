@@ -1,10 +1,8 @@
 -- A step over the bytes: what the answers of its calls said, and the step in terms of the year that was read.
 -- Assumes nothing.
-use mathlib.Core.Path.{_≡_, refl, _∙_, ap, sym}
+use mathlib.Core.Path.{_≡_, _∙_, ap}
 use mathlib.Core.List.{List}
 use Prim.Native.Nat.{ℕ, _≤_, _<_}
-use native.Mathlib.Omega.{arith}
-use lib.IntN.{pos}
 use lib.ListN.{length, drop}
 use Rattle.arithmetic.proofs.SumLaws.{sum2-cong}
 use Rattle.classes.specs.declared.CarbonUnits.{CarbonUnits}
@@ -14,20 +12,20 @@ use Rattle.classes.specs.Matrix.{entry, tableOf}
 use Rattle.classes.specs.Calendar.{daysInYear}
 use Rattle.classes.proofs.MatrixLaws.{entry-tableOf}
 use Rattle.projection.specs.declared.Region.{Region}
-use Rattle.projection.specs.Projection.{flow, projectedCarbon}
+use Rattle.projection.specs.Projection.{projectedCarbon}
 use Rattle.figures.specs.Year.{Terms, Year}
-use Rattle.figures.specs.Figures.{monitoredCarbon, countedFactor, referenceLevel, stockChangeEmissions, figuresOf}
+use Rattle.figures.specs.Figures.{monitoredCarbon, countedFactor}
 use Rattle.figures.specs.Ranges.{SmallCarbon, SmallGrams}
 use Rattle.figures.specs.Reckoning.{regionReference, tableEmissions, yearFigures}
 use Rattle.dossier.specs.Records.{Due}
-use Rattle.dossier.specs.Reader.{Judged, refused, accepted, Reader, after, _>>=_, give}
+use Rattle.dossier.specs.Reader.{Judged, refused, accepted, after, _>>=_, give}
 use Rattle.dossier.specs.Judging.{year}
 use Rattle.cursor.proofs.AtLaws.{bind-no, bind-yes, bind-bind, after-same}
 use Rattle.years.specs.declared.YearAnswer.{YearAnswer}
 use Rattle.years.specs.Answers.{Summary, summary, summarizedYear, yearSays, tablesInside, yearFits}
 use Rattle.reckoning.specs.declared.State.{State}
 use Rattle.reckoning.specs.declared.Advanced.{Advanced}
-use Rattle.reckoning.specs.Step.{afterFigures, yearAdvanced, summaryFigures, summaryAdvanced, steppedYear}
+use Rattle.reckoning.specs.Step.{yearAdvanced, summaryFigures, summaryAdvanced, steppedYear}
 
 pub year-refused : (s : List ℕ) (r : YearAnswer) (n : ℕ) (j : Judged Summary) → r ≡ YearAnswer.Refused n → yearSays s r ≡ j → refused n ≡ j
 year-refused s r n j e q = rw e at q

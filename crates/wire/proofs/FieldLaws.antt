@@ -1,7 +1,7 @@
 -- A field of v + w bytes is one of v bytes and one of w: the one law of every width.
 -- Assumes nothing.
-use Prim.Native.Nat.{ℕ, zero, suc, _+_, _*_, _^_, _≤_, _<_}
-use mathlib.Core.Path.{_≡_, refl, _∙_, ap, sym}
+use Prim.Native.Nat.{ℕ, _+_, _*_, _^_, _≤_, _<_}
+use mathlib.Core.Path.{_≡_}
 use mathlib.Core.List.{List, [], _∷_, _++_}
 use lib.Pow.{pow-add}
 use native.Mathlib.Omega.{arith}

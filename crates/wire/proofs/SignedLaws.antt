@@ -1,17 +1,17 @@
 -- Two's complement: what it is below 0 and from 0 on, and that the bytes of a figure say the figure.
 -- Assumes nothing.
-use Prim.Native.Nat.{ℕ, zero, suc, _+_, _-_, _*_, _^_, _≤_, _<_}
+use Prim.Native.Nat.{ℕ, _+_, _-_, _*_, _^_, _≤_, _<_}
 use mathlib.Core.Path.{_≡_, refl, _∙_, ap, sym}
 use mathlib.Core.List.{List, [], _∷_, _++_, append-assoc, append-nil}
 use native.Mathlib.Omega.{arith}
 use lib.IntN.{ℤ, pos, negsuc}
 use lib.Signed.{mag}
-use lib.ListN.{length, take, drop, length-append, length-drop}
-use lib.Seq.{sets, sets-eq, take-at, drop-at, take-append-le, drop-append-le, drop-append-add, drop-drop}
+use lib.ListN.{length, drop, length-append, length-drop}
+use lib.Seq.{sets, sets-eq, take-at, drop-at, drop-append-add, drop-drop}
 use borrow.Author.Tests.{lt-ltb, le-ltb}
-use Rattle.wire.specs.Bytes.{bytes, number, fieldAt}
+use Rattle.wire.specs.Bytes.{bytes, fieldAt}
 use Rattle.wire.specs.Signed.{twosComplement, figureBytes, figuresBytes, written, signed, figureAt}
-use Rattle.wire.proofs.BytesLaws.{length-bytes, number-bytes, take-bytes}
+use Rattle.wire.proofs.BytesLaws.{length-bytes, take-bytes}
 
 pub twos-below : (z : ℤ) (n : ℕ) → z ≡ negsuc n → 18446744073709551615 - n ≡ twosComplement z
 unfolding twosComplement

@@ -1,18 +1,17 @@
 -- CP and CD at a place, from what the code reads there.
 -- Assumes nothing.
-use mathlib.Core.Path.{_≡_, refl, _∙_, ap, sym}
+use mathlib.Core.Path.{_≡_, _∙_, ap}
 use mathlib.Core.Bool.{cond}
-use mathlib.Core.List.{List, [], _∷_}
+use mathlib.Core.List.{List}
 use Prim.Native.Nat.{ℕ, zero, suc, _+_, _*_, _≤_, _<_}
 use native.Mathlib.Nat.{le-of-suc-le-suc, mul-le-mul-left}
-use native.Mathlib.Numerals.{add-one}
 use native.Mathlib.Omega.{arith}
 use lib.Dec.{eqb}
-use lib.ListN.{length, take, drop, getD}
+use lib.ListN.{take, drop, getD}
 use lib.Seq.{drop-drop}
 use borrow.Author.Tests.{eq-eqb, ne-eqb}
 use Rattle.arithmetic.specs.Sum.{sum}
-use Rattle.arithmetic.proofs.SumLaws.{sum-none, sum-next, sum-cong}
+use Rattle.arithmetic.proofs.SumLaws.{sum-next, sum-cong}
 use Rattle.classes.specs.declared.CarbonUnits.{CarbonUnits}
 use Rattle.classes.specs.Matrix.{entry}
 use Rattle.projection.specs.Projection.{FactorsFit}

@@ -1,30 +1,29 @@
 -- A year at a place, from what the code reads there.
 -- Assumes nothing.
-use mathlib.Core.Path.{_≡_, refl, _∙_, ap, sym}
+use mathlib.Core.Path.{_≡_, _∙_, ap, sym}
 use mathlib.Core.Bool.{Bool, true, false, cond}
 use mathlib.Core.List.{List, []}
-use Prim.Native.Nat.{ℕ, _+_, _≤_, _<_}
+use Prim.Native.Nat.{ℕ, _+_, _≤_}
 use native.Mathlib.Omega.{arith}
 use lib.Dec.{eqb}
-use lib.ListN.{length, take, drop}
+use lib.ListN.{length, drop}
 use lib.Signed.{mag}
 use borrow.Author.Tests.{eq-eqb, ne-eqb}
 use Rattle.classes.specs.declared.CarbonUnits.{CarbonUnits}
 use Rattle.classes.specs.declared.Grams.{Grams}
 use Rattle.classes.specs.Calendar.{daysInYear}
-use Rattle.activity.specs.declared.Activity.{Activity}
 use Rattle.figures.specs.Year.{Year}
-use Rattle.wire.specs.Bytes.{number, fieldAt}
+use Rattle.wire.specs.Bytes.{fieldAt}
 use Rattle.dossier.specs.Marks.{YR, CP, CD}
 use Rattle.dossier.specs.Records.{Due}
-use Rattle.dossier.specs.Reader.{Judged, refused, accepted, Reader, after, _>>=_, _>>_, give, refuse, begin, outside, field, within, equal}
+use Rattle.dossier.specs.Reader.{Judged, refused, accepted, Reader, after, _>>=_, _>>_, give, refuse, begin, outside}
 use Rattle.dossier.specs.JudgingRecords.{conversions}
 use Rattle.dossier.specs.Judging.{activities, noneLeft, yearDue, year}
 use Rattle.cursor.specs.Answers.{begunSays}
 use Rattle.cursor.proofs.AtLaws.{begun-no, begun-yes, reading, bind-no, bind-yes, bind-bind, after-same}
 use Rattle.dossier.proofs.ReaderLaws.{step, was}
 use Rattle.activities.specs.declared.RunAnswer.{RunAnswer}
-use Rattle.activities.specs.Answers.{Summed, summed, summedActivities, runSays, runInside}
+use Rattle.activities.specs.Answers.{Summed, summedActivities, runSays, runInside}
 use Rattle.figures.specs.Ranges.{SmallCarbon, SmallGrams}
 use Rattle.years.specs.declared.TableAnswer.{TableAnswer}
 use Rattle.years.specs.declared.YearAnswer.{YearAnswer}

@@ -13,11 +13,11 @@ use Rattle.figures.specs.Year.{Year}
 use Rattle.figures.specs.Figures.{monitoredCarbon}
 use Rattle.figures.specs.Ranges.{SmallCarbon, SmallGrams}
 use Rattle.dossier.specs.Records.{Due}
-use Rattle.dossier.specs.Reader.{Judged, refused, accepted, Reader, _>>=_, _>>_, give, endOfPiece}
+use Rattle.dossier.specs.Reader.{Judged, refused, accepted, Reader, _>>=_, _>>_, give}
 use Rattle.dossier.specs.JudgingRecords.{conversions}
 use Rattle.dossier.specs.Marks.{CP, CD}
 use Rattle.dossier.specs.Judging.{year}
-use Rattle.activities.specs.Answers.{Summed, summedActivities}
+use Rattle.activities.specs.Answers.{summedActivities}
 use Rattle.years.specs.declared.TableAnswer.{TableAnswer}
 use Rattle.years.specs.declared.YearAnswer.{YearAnswer}
 

@@ -1,8 +1,6 @@
 -- `ledgertrace::main` meets its contract: every call gets a ledger that the calls handed back, and the list ends.
 -- Assumes nothing.
-use Prim.Native.Nat.{_<_}
 use mathlib.Core.Path.{sym}
-use native.Mathlib.Omega.{arith}
 use borrow.Author.Needs.{needs}
 use Rattle.ledgertrace.specs.Trace.{Traced}
 use Rattle.ledgertrace.proofs.TraceLaws.{opened-none}

@@ -1,7 +1,5 @@
 -- `vectors::main` ends, with its list or after more vectors than a machine reads.
 -- Assumes nothing.
-use Prim.Native.Nat.{_<_}
-use native.Mathlib.Omega.{arith}
 use borrow.Author.Needs.{needs}
 use Rattle.vectors.proofs.main.Statement.{statement}
 use Rattle.vectors.proofs.main.Tie as tie
