@@ -2,7 +2,7 @@
 use activity::Activity;
 use classes::Grams;
 ghost use mathlib.Core.Path.{_≡_};
-ghost use Prim.Native.Nat.{_+_, _*_, _≤_, _<_};
+ghost use Prim.Native.Nat.{_+_, _≤_};
 ghost use lib.ListN.{length, drop};
 ghost use Rattle.dossier.specs.Reader.{stands};
 ghost use Rattle.dossier.specs.JudgingRecords.{fuel, vehicles, nitrogen, lime, activityMark, activity as judgedActivity};

@@ -1,7 +1,7 @@
 // Activity records and their emissions.
 use classes::Grams;
 ghost use mathlib.Core.Path.{_≡_};
-ghost use Prim.Native.Nat.{_*_, _≤_, _<_};
+ghost use Prim.Native.Nat.{_*_, _≤_};
 ghost use lib.IntN.{pos};
 ghost use Rattle.arithmetic.specs.Rounding.{ceilDiv};
 ghost use Rattle.activity.specs.Activity.{Within, fuelFactor, n2oShare, limeFactor, ActivityInRange, activityGrams};

@@ -4,7 +4,6 @@
 // 65,536. Before any `O` the ledger is the empty one. The list ends where a call is cut or is none of these.
 use reckoner::Answer;
 use reckoner::Ledger;
-use reckoner::Step;
 ghost use Prim.Native.Nat.{_<_};
 ghost use mathlib.Core.Path.{_≡_};
 ghost use Rattle.ledgertrace.specs.Trace.{Traced};

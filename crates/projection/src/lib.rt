@@ -2,11 +2,9 @@
 use classes::AreaUnits;
 use classes::CarbonUnits;
 ghost use mathlib.Core.Path.{_≡_};
-ghost use Prim.Native.Nat.{ℕ, _+_, _*_, _/_, _≤_, _<_};
-ghost use lib.ListN.{getD};
-ghost use Rattle.arithmetic.specs.Sum.{sum};
+ghost use Prim.Native.Nat.{_*_, _/_, _≤_, _<_};
 ghost use Rattle.classes.specs.Matrix.{entry};
-ghost use Rattle.projection.specs.Projection.{areaTotal, flow as flowOf, nextArea, projectedYear, SmallRegion, RowsWithin, FactorsFit};
+ghost use Rattle.projection.specs.Projection.{areaTotal, nextArea, projectedYear, SmallRegion, RowsWithin, FactorsFit};
 ghost use Rattle.projection.specs.Projection.{inflowCarbon};
 
 // The twelve areas of a region by class, and its balance: the area that rounding lost so far.

@@ -8,7 +8,7 @@ use reckoning::Advanced;
 use reckoning::State;
 use reckoning::StepAnswer;
 ghost use mathlib.Core.Path.{_≡_};
-ghost use Prim.Native.Nat.{_+_, _*_, _≤_, _<_};
+ghost use Prim.Native.Nat.{_≤_, _<_};
 ghost use lib.ListN.{length, drop};
 ghost use Rattle.dossier.specs.Judging.{end, bufferNumber, callNumber};
 ghost use Rattle.reckoner.specs.Ledger.{noFigures, emptyLedger, openedWith, withAdvanced, givenYears, NewlyOpened, Closable};

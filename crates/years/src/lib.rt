@@ -3,7 +3,7 @@ use classes::AreaUnits;
 use classes::CarbonUnits;
 use classes::Grams;
 ghost use mathlib.Core.Path.{_≡_};
-ghost use Prim.Native.Nat.{_+_, _*_, _≤_};
+ghost use Prim.Native.Nat.{_≤_};
 ghost use lib.ListN.{length, drop};
 ghost use Rattle.classes.specs.Matrix.{entry};
 ghost use Rattle.projection.specs.Projection.{FactorsFit};
