@@ -14,6 +14,8 @@ pub mod DossierLaws
 pub mod Places
 pub mod WellFormed
 pub mod Longest
+pub mod SettleSteps
+pub mod FirstBytes
 pub mod Pieces
 pub mod CauseSteps
 pub mod Causes

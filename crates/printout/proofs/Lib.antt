@@ -1,1 +1,2 @@
 pub mod PrintoutLaws
+pub mod LongInputs

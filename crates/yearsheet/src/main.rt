@@ -1,4 +1,4 @@
-// Reads a dossier on standard input and prints its sheet, or its refusal. The longest dossier has 65,062 bytes: of a longer input the first 65,536 are judged.
+// Reads a dossier on standard input and prints its sheet, or its refusal. The first 65,536 bytes settle what is printed of any input.
 use libc::STDIN_FILENO;
 use libc::STDOUT_FILENO;
 

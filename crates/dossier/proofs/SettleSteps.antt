@@ -1,0 +1,145 @@
+-- Each step of a reader is settled by a few bytes.
+-- Assumes nothing.
+use Prim.Native.Nat.{ℕ, zero, suc, _+_, _*_, _≤_}
+use mathlib.Core.Path.{_≡_, refl}
+use mathlib.Core.Bool.{Bool, true, false, cond}
+use mathlib.Core.List.{List, _++_}
+use native.Mathlib.Omega.{arith}
+use borrow.Author.Tests.{lt-ltb, le-ltb}
+use lib.Dec.{eqb}
+use lib.ListN.{length, drop, length-append, length-drop}
+use lib.Seq.{take-append-le, drop-append-le}
+use Rattle.wire.specs.Bytes.{numbers}
+use Rattle.dossier.specs.Reader.{Judged, refused, accepted, Reader, after, _>>=_, _>>_, give, refuse, mark, stands, upon, present, begin, field, fields, outside, within, equal, nothing}
+use Rattle.dossier.proofs.ReaderLaws.{present-yes}
+
+-- the same judgement, and t is left over too
+abbrev pub andLeft : {A : Type 0} → List ℕ → Judged A → Judged A
+andLeft t (refused n) = refused n
+andLeft t (accepted a u) = accepted a (u ++ t)
+
+-- l bytes at least are left over
+abbrev pub Leaves : {A : Type 0} → ℕ → Judged A → Type 0
+Leaves l (refused n) = Unit {0}
+Leaves l (accepted a u) = l ≤ length u
+
+-- m bytes settle r: what follows them is left over, and no more than m are read
+pub record Settles {A : Type 0} (m : ℕ) (r : Reader A) : Type 0 where
+  pub alike : (s t : List ℕ) → m ≤ length s → r (s ++ t) ≡ andLeft t (r s)
+  pub leaves : (s : List ℕ) (l : ℕ) → m + l ≤ length s → Leaves l (r s)
+
+-- ---- readers made of others
+pub bind-alike : {A B : Type 0} {m : ℕ} {r : Reader A} (k : A → Reader B) → Settles m r → (n : ℕ) (s t : List ℕ) → m + n ≤ length s
+    → ((a : A) (u : List ℕ) → r s ≡ accepted a u → n ≤ length u → k a (u ++ t) ≡ andLeft t (k a u)) → (r >>= k) (s ++ t) ≡ andLeft t ((r >>= k) s)
+unfolding _>>=_
+bind-alike {A} {B} {m} {r} k x n s t h f = rw (x .alike s t (omega arith)) (go (r s) refl (x .leaves s n h))
+  where
+    go : (j : Judged A) → r s ≡ j → Leaves n j → after (andLeft t j) k ≡ andLeft t (after j k)
+    go (refused c) e l = refl
+    go (accepted a u) e l = f a u e l
+
+pub bind : {A B : Type 0} {m n : ℕ} {r : Reader A} {k : A → Reader B} → Settles m r → ((a : A) → Settles n (k a)) → Settles (m + n) (r >>= k)
+unfolding _>>=_
+bind {A} {B} {m} {n} {r} {k} x y = record {
+  alike = λ s t h. bind-alike k x n s t h (λ a u e l. y a .alike u t l);
+  leaves = λ s l h. go l (r s) (x .leaves s (n + l) (omega arith));
+}
+  where
+    go : (l : ℕ) (j : Judged A) → Leaves (n + l) j → Leaves l (after j k)
+    go l (refused c) h = tt
+    go l (accepted a u) h = y a .leaves u l h
+
+pub seq : {A B : Type 0} {m n : ℕ} {r : Reader A} {q : Reader B} → Settles m r → Settles n q → Settles (m + n) (r >> q)
+unfolding _>>_ _>>=_
+seq x y = bind x (λ _. y)
+
+-- more bytes settle it too
+pub more : {A : Type 0} {m n : ℕ} {r : Reader A} → Settles m r → m ≤ n → Settles n r
+more x h = record { alike = λ s t l. x .alike s t (omega arith); leaves = λ s l k. x .leaves s l (omega arith) }
+
+-- a reader that does the same where there are m bytes
+instead : {A : Type 0} {m : ℕ} {r q : Reader A} → Settles m q → ((s : List ℕ) → m ≤ length s → r s ≡ q s) → Settles m r
+instead {m = m} x f = record {
+  alike = λ s t h.
+      let g : m ≤ length (s ++ t) = simp length-append (omega arith) in
+      rw (f (s ++ t) g, f s h) (x .alike s t h);
+  leaves = λ s l h. rw (f s (omega arith)) (x .leaves s l h);
+}
+
+either : {A : Type 0} {m : ℕ} {r q : Reader A} (b : Bool) → Settles m r → Settles m q → Settles m (λ s. cond b (r s) (q s))
+either true x y = x
+either false x y = y
+
+stands-alike : (kind : ℕ → Bool) (s t : List ℕ) → 2 ≤ length s → stands kind (s ++ t) ≡ stands kind s
+unfolding stands
+stands-alike kind s t h =
+    let g : 2 ≤ length (s ++ t) = simp length-append (omega arith) in
+    rw (le-ltb _ _ g, le-ltb _ _ h, take-append-le 2 s t h)
+
+pub choice : {A : Type 0} {m : ℕ} {r q : Reader A} (kind : ℕ → Bool) → Settles m r → Settles m q → 2 ≤ m → Settles m (upon kind r q)
+unfolding upon
+choice kind x y h = record {
+  alike = λ s t l. rw (stands-alike kind s t (omega arith)) (either (stands kind s) x y .alike s t l);
+  leaves = λ s. either (stands kind s) x y .leaves s;
+}
+
+-- ---- the steps
+pub given : {A : Type 0} (a : A) → Settles 0 (give a)
+unfolding give
+given a = record { alike = λ s t h. refl; leaves = λ s l h. omega arith }
+
+pub refusal : {A : Type 0} (n : ℕ) → Settles 0 (refuse {A = A} n)
+unfolding refuse
+refusal n = record { alike = λ s t h. refl; leaves = λ s l h. tt }
+
+pub withins : (n low x high : ℕ) → Settles 0 (within n low x high)
+unfolding within refuse give
+withins n low x high = either (outside low x high) (refusal n) (given tt)
+
+pub equals : (n x y : ℕ) → Settles 0 (equal n x y)
+unfolding equal refuse give
+equals n x y = either (eqb x y) (given tt) (refusal n)
+
+pub a-field : (w : ℕ) → Settles w (field w)
+unfolding field
+a-field w = record {
+  alike = λ s t h. rw (take-append-le w s t h, drop-append-le w s t h);
+  leaves = λ s l h. simp length-drop (omega arith);
+}
+
+numbers-alike : (k w : ℕ) (s t : List ℕ) → k * w ≤ length s → numbers k w (s ++ t) ≡ numbers k w s
+unfolding numbers
+numbers-alike zero w s t h = refl
+numbers-alike (suc k) w s t h =
+    let g : w ≤ length s = omega arith in
+    let i = numbers-alike k w (drop w s) t (simp length-drop (omega arith)) in
+    rw (take-append-le w s t g, drop-append-le w s t g, i)
+
+pub some-fields : (k w : ℕ) → Settles (k * w) (fields k w)
+unfolding fields
+some-fields k w = record {
+  alike = λ s t h. rw (numbers-alike k w s t h, drop-append-le (k * w) s t h);
+  leaves = λ s l h. simp length-drop (omega arith);
+}
+
+-- a mark is a field of two bytes
+pub marks : (m : ℕ) → Settles 2 (mark m)
+unfolding mark field equal _>>=_
+marks m = instead (bind (a-field 2) (λ x. equals 2 x m)) (λ s h. rw (le-ltb _ _ h))
+
+-- where no bytes are missing, a record begins with its mark alone
+begin-marks : (m n : ℕ) (s : List ℕ) → 2 + n ≤ length s → begin m n s ≡ mark m s
+unfolding begin _>>_
+begin-marks m n s h = go (mark m s) (marks m .leaves s n h)
+  where
+    go : (j : Judged (Unit {0})) → Leaves n j → after j (λ _. present n) ≡ j
+    go (refused c) l = refl
+    go (accepted a u) l = present-yes n u l
+
+pub begins : {A : Type 0} {n k : ℕ} {r : Reader A} (m : ℕ) → Settles k r → n ≤ k → Settles (2 + k) (begin m n >> r)
+unfolding _>>_
+begins {n = n} m x g = instead (seq (marks m) x) (λ s h. rw (begin-marks m n s (omega arith)))
+
+pub nothings : Settles 1 nothing
+unfolding nothing refuse
+nothings = instead (more (refusal 2) (omega arith)) (λ s h. rw (lt-ltb 0 (length s) h))
