@@ -1,124 +1,168 @@
 #!/usr/bin/env python3
-"""Compares the proved reckoner with the independent one: number and every byte of the buffer.
+"""Compares the proved reckoner with the independent one: numbers, every byte of the buffer, sheets, and lists of calls on a ledger.
 
-    python3 tests/independent/compare.py LIBRARY [SEED] [ROUNDS]
+    python3 tests/independent/compare.py LIBRARY YEARSHEET LEDGERTRACE [SEED] [ROUNDS]
 """
 import collections
 import ctypes
 import random
 import struct
+import subprocess
 import sys
 
 import reckoner
+from dossiers import bare, encode, full, greatest, long, pieces, small, sound, spoiled, typical, ways
 
-MARKS = [b"HD", b"PA", b"DA", b"MP", b"YR", b"CP", b"CD", b"FU", b"VE", b"NI", b"LI", b"EN"]
-LIMIT = 10**12
-
-
-def parts(rng, total, count):
-    """count numbers that add up to a total."""
-    cells = [0] * count
-    for _ in range(rng.choice((1, 3, count))):
-        cells[rng.randrange(count)] += (piece := rng.randint(0, total))
-        total -= piece
-    cells[rng.randrange(count)] += total
-    return cells
+NUMBERS = {"reckon": range(11), "open": range(6), "year": (0, 1, 2, 6, 7, 8, 9), "close": (0, 10)}
 
 
-def words(width, values):
-    return b"".join(v.to_bytes(width, "big") for v in values)
+# Calls on a ledger, as the program ledgertrace takes them
+
+def lent(kind, data):
+    """O opens and Y gives a year."""
+    return kind + struct.pack(">I", len(data)) + data
 
 
-def activity(rng, high):
-    def upto(most):
-        return rng.choice((0, 1, most)) if high else rng.randint(0, most)
-    kind = rng.randint(1, 3)
+def closing(room):
+    return b"C" + struct.pack(">I", room)
+
+
+def answer(ledger, kind, data, room):
+    if kind == b"O":
+        return f"open {ledger.open(data)}"
+    if kind == b"Y":
+        return f"year {ledger.year(data)}"
+    number = ledger.close(bytearray(room))
+    return " ".join(map(str, ("close", number, *(ledger.numbers() if number == 0 else ()))))
+
+
+def trace(calls):
+    """What is due of a list of calls: a line for each, up to the end, a cut call, an unknown one or a length above 65,536."""
+    ledger, lines, at = reckoner.Ledger(), [], 0
+    while calls[at:at + 1] in (b"O", b"Y", b"C") and len(calls) >= at + 5:
+        kind, length = calls[at:at + 1], int.from_bytes(calls[at + 1:at + 5], "big")
+        data = b"" if kind == b"C" else calls[at + 5:at + 5 + length]
+        if length > 65536 or kind != b"C" and len(data) < length:
+            break
+        lines.append(answer(ledger, kind, data, length) + "\n")
+        at += 5 + len(data)
+    return "".join(lines)
+
+
+def rooms(n):
+    """Buffer lengths around the limit, and others."""
+    need = 64 * n + 32
+    return (*range(need - 9, need + 10), 0, 1312, 1320)
+
+
+def between(rng, due, given, others):
+    """A closing, a year out of turn or a spoiled one."""
     return rng.choice((
-        lambda: b"FU" + struct.pack(">BQ", kind, upto(LIMIT)),
-        lambda: b"VE" + struct.pack(">BIII", kind, upto(1000), upto(1000), upto(1000000 if not high else 1000) // 10),
-        lambda: b"NI" + struct.pack(">BBQH", kind, rng.randint(1, 2), upto(10**10), upto(10000)),
-        lambda: b"LI" + struct.pack(">BQ", kind, upto(LIMIT)),
+        lambda: closing(rng.choice(rooms(rng.choice((0, given, given, given + 1))))),
+        lambda: lent(b"Y", encode(rng.choice(others))),
+        lambda: lent(b"Y", spoiled(rng, due, rng.choice(ways(due)))),
     ))()
 
 
-def pieces(rng):
-    """A sound dossier: its opening, and its years."""
-    high = rng.random() < 0.2
-    option, first = rng.randint(1, 2), rng.choice((2000, 2099, 2100, 2200, rng.randint(2000, 2200)))
-    n = rng.choice((1, 1, 1, 2, 3, 20 if high else 4))
-    project = rng.choice((1, rng.randint(1, 1000), rng.randint(1, LIMIT), LIMIT))
-    belt = rng.choice((0, 1, rng.randint(0, LIMIT), LIMIT))
-    opening = b"HD" + struct.pack(">BHB", option, first, n)
-    opening += b"PA" + words(8, parts(rng, project, 12)) + b"DA" + words(8, parts(rng, belt, 12))
-    if option == 2:
-        opening += b"MP" + b"".join(words(4, parts(rng, 1000000, 12)) for _ in range(12))
-    years = []
-    for year in range(first, first + n):
-        days = rng.choice((1, reckoner.days_of(year), rng.randint(1, 365)))
-        piece = b"YR" + struct.pack(">HH", year, days)
-        piece += b"CP" + words(8, parts(rng, project, 144)) + b"CD" + words(8, parts(rng, belt, 144))
-        years.append(piece + b"".join(activity(rng, high) for _ in range(rng.choice((0, 1, 5, 60, 61 if rng.random() < 0.2 else 2)))))
-    return opening, years
+def on_one_dossier(rng, head, years, others):
+    """Spoiled openings, mostly a sound one, its years in order with other calls between them, a year more."""
+    calls = [lent(b"O", spoiled(rng, head, rng.choice(ways(head)))) for _ in range(rng.choice((0, 1, 3)))]
+    if rng.random() < 0.8:
+        calls.append(lent(b"O", encode(head)))
+    for given, due in enumerate([*years, years[-1]]):
+        calls += [between(rng, due, given, others) for _ in range(rng.choice((0, 1, 3)))]
+        calls.append(lent(b"Y", encode(due)))
+    return calls[:rng.choice((len(calls), rng.randint(0, len(calls))))] + [closing(rng.choice(rooms(len(years))))]
 
 
-def places(data):
-    """Where a mark stands, or bytes that look like one."""
-    return [at for at in range(len(data) - 1) if data[at:at + 2] in MARKS] or [0]
+def call_list(rng):
+    """Calls on some dossiers in turn; now and then an unknown one, too great a length, or a cut."""
+    known = [pieces(sound(rng, rng.choice((small, small, typical, full, bare, long)))) for _ in range(4)]
+    others = [due for _, years in known for due in years]
+    calls = [call for head, years in known for call in on_one_dossier(rng, head, years, others)]
+    if rng.random() < 0.2:
+        odd = rng.choice((b"X", b"o", closing(65537), b"Y" + bytes([255] * 4), lent(b"Y", bytes(65536)), closing(65536)))
+        calls.insert(rng.randrange(len(calls)), odd)
+    calls = b"".join(calls)
+    return calls[:rng.randrange(len(calls))] if rng.random() < 0.3 else calls
 
 
-def spoil(rng, data):
-    data = bytearray(data)
-    at = rng.choice(places(data))
-    way = rng.randrange(8)
-    if way == 0:
-        del data[rng.choice((at, at + 1, at + 2, rng.randrange(len(data)))):]
-    elif way == 1:
-        data += rng.randbytes(rng.randint(1, 3))
-    elif way == 2:
-        data += rng.choice(MARKS) + bytes(rng.randint(0, 8))
-    elif way == 3:
-        data[rng.randrange(len(data))] ^= 1 << rng.randrange(8)
-    elif way == 4:
-        data[at:at + 2] = rng.choice(MARKS)
-    elif way == 5:
-        spot = min(at + 2 + rng.randrange(14), len(data) - 1)
-        data[spot] = (data[spot] + rng.choice((1, -1))) % 256
-    elif way == 6 and at + 18 <= len(data):  # two neighbours that wrap to the same 64-bit sum
-        for spot in (at + 2, at + 10):
-            value = (int.from_bytes(data[spot:spot + 8], "big") + 2**63) % 2**64
-            data[spot:spot + 8] = value.to_bytes(8, "big")
-    else:
-        data[:6] = b"HD" + bytes(rng.choice(((0, 7, 208, 1), (3, 7, 208, 1), (1, 7, 207, 1), (1, 8, 153, 1), (1, 7, 208, 0), (1, 7, 208, 21))))
-    return bytes(data)
+# Comparing
+
+class Comparison:
+    def __init__(self, library, yearsheet, ledgertrace, seed):
+        self.call = ctypes.CDLL(library).kh_am004_reckon
+        self.call.argtypes, self.call.restype = (ctypes.c_char_p, ctypes.c_size_t, ctypes.c_char_p, ctypes.c_size_t), ctypes.c_uint32
+        self.yearsheet, self.ledgertrace, self.seed, self.rng = yearsheet, ledgertrace, seed, random.Random(seed)
+        self.seen, self.sheets, self.kinds = {word: collections.Counter() for word in NUMBERS}, 0, collections.Counter()
+
+    def same(self, what, proved, due, data):
+        if proved != due:
+            sys.exit(f"{what} differs, seed {self.seed}\nproved: {proved}\nindependent: {due}\nof the bytes {data.hex()}")
+
+    def reckoning(self, data, lengths):
+        number, ledger = reckoner.reckon(data, bytearray(1312))
+        for room in lengths:
+            old = self.rng.randbytes(room + 8)
+            proved, due = ctypes.create_string_buffer(old, len(old)), bytearray(old[:room])
+            due_number = number or ledger.close(due)
+            proved_number = self.call(data, len(data), proved, room)
+            self.same(f"the number for a buffer of {room}", proved_number, due_number, data)
+            self.same(f"a buffer of {room} and 8 bytes beyond", proved.raw.hex(), (due + old[room:]).hex(), data)
+            self.seen["reckon"][due_number] += 1
+
+    def printed(self, program, data):
+        ran = subprocess.run([program], input=data, stdout=subprocess.PIPE)
+        return ran.stdout.decode("latin-1") + f"ended with {ran.returncode}" * (ran.returncode != 0)
+
+    def sheet(self, data):
+        self.same("the sheet", self.printed(self.yearsheet, data), reckoner.sheet(data), data)
+        self.sheets += 1
+
+    def dossier(self, data, lengths, kind):
+        """One in ten of each kind is printed too."""
+        self.reckoning(data, lengths)
+        if self.kinds[kind] % 10 == 0:
+            self.sheet(data)
+        self.kinds[kind] += 1
+
+    def dossiers(self, kind):
+        records = sound(self.rng, kind)
+        lengths = rooms(len(pieces(records)[1]))
+        self.dossier(encode(records), lengths, kind)
+        for way in ways(records):
+            self.dossier(spoiled(self.rng, records, way), [self.rng.choice(lengths)], (kind, way))
+
+    def calls(self):
+        calls = call_list(self.rng)
+        due = trace(calls)
+        self.same("the trace of a list of calls", self.printed(self.ledgertrace, calls), due, calls)
+        for line in due.splitlines():
+            word, number, *_ = line.split()
+            self.seen[word][int(number)] += 1
+
+    def report(self):
+        buffers, *calls = (sum(seen.values()) for seen in self.seen.values())
+        print(f"{sum(self.kinds.values())} dossiers, {buffers} buffers, {self.sheets} sheets and {sum(calls)} calls: all agree")
+        for word, numbers in NUMBERS.items():
+            print(f"{word}:", ", ".join(f"{number} came {self.seen[word][number]} times" for number in numbers))
+        for word, numbers in NUMBERS.items():
+            if set(numbers) != set(self.seen[word]):
+                sys.exit(f"{word}: numbers {sorted(self.seen[word])} came, not {list(numbers)}")
 
 
 def main():
-    call = ctypes.CDLL(sys.argv[1]).kh_am004_reckon
-    call.argtypes, call.restype = (ctypes.c_char_p, ctypes.c_size_t, ctypes.c_char_p, ctypes.c_size_t), ctypes.c_uint32
-    seed = int(sys.argv[2]) if len(sys.argv) > 2 else 4
-    rounds = int(sys.argv[3]) if len(sys.argv) > 3 else 300
-    rng, seen = random.Random(seed), collections.Counter()
-
-    def compare(data, room):
-        old = rng.randbytes(room + 8)
-        proved, independent = ctypes.create_string_buffer(old, len(old)), bytearray(old[:room])
-        number = call(data, len(data), proved, room)
-        due, _ = reckoner.reckon(data, independent)
-        if (number, proved.raw) != (due, bytes(independent) + old[room:]):
-            sys.exit(f"they differ: proved {number}, independent {due}, seed {seed}, dossier {data.hex()}, buffer {room}")
-        seen[number] += 1
-
-    for _ in range(rounds):
-        opening, years = pieces(rng)
-        sound = opening + b"".join(years) + b"EN"
-        need = 64 * len(years) + 32
-        for room in (need - 1, need, 1312):
-            compare(sound, room)
-        for _ in range(12):
-            compare(spoil(rng, sound), rng.choice((0, need - 1, need, 1312)))
-    print("the independent reckoner agrees; how often each number came:", *(seen[k] for k in range(11)))
-    if any(seen[k] == 0 for k in range(11)):
-        sys.exit("not every number came")
+    if len(sys.argv) < 4:
+        sys.exit(__doc__)
+    library, yearsheet, ledgertrace, *given = sys.argv[1:]
+    seed, rounds = map(int, given + ["4", "30"][len(given):])
+    comparison = Comparison(library, yearsheet, ledgertrace, seed)
+    for k in range(rounds):
+        for kind in (small, typical, full, bare, *((long, greatest) if k % 4 == 0 else ())):
+            comparison.dossiers(kind)
+        for _ in range(3):
+            comparison.calls()
+    comparison.report()
 
 
 if __name__ == "__main__":

@@ -1,0 +1,271 @@
+"""Dossiers for the tests: sound ones of many kinds, and ways to spoil them.
+
+A dossier is a list of records, a record its mark and its fields.
+"""
+import struct
+
+from reckoner import CLASSES, days_of
+
+LIMIT = 10**12
+FIELDS = {"HD": "BHB", "PA": 12 * "Q", "DA": 12 * "Q", "MP": 144 * "I", "YR": "HH", "CP": 144 * "Q", "CD": 144 * "Q",
+          "FU": "BQ", "VE": "BIII", "NI": "BBQH", "LI": "BQ", "EN": ""}
+BITS = {"B": 8, "H": 16, "I": 32, "Q": 64}
+WITH_FIELDS = [mark for mark, form in FIELDS.items() if form]
+SUMS = ("PA", "DA", "MP", "CP", "CD")
+GREATEST = {"FU": [3, LIMIT], "VE": [3, 1000, 1000000, 100000], "NI": [3, 2, 10**10, 10000], "LI": [3, LIMIT]}
+END = ("EN", [])
+
+
+# Building
+
+def encode(records):
+    return b"".join(mark.encode() + struct.pack(">" + FIELDS[mark], *fields) for mark, fields in records)
+
+
+def places(records):
+    """Where each record begins, and where the last one ends."""
+    found = [0]
+    for mark, _ in records:
+        found.append(found[-1] + 2 + struct.calcsize(">" + FIELDS[mark]))
+    return found
+
+
+def areas(**units):
+    return [units.get(c, 0) for c in CLASSES]
+
+
+def table(*cells):
+    """144 numbers, zero but for some cells (from, to, number)."""
+    numbers = [0] * 144
+    for i, j, number in cells:
+        numbers[12 * CLASSES.index(i) + CLASSES.index(j)] += number
+    return numbers
+
+
+def stays(units):
+    """The table in which every area stays."""
+    return table(*((c, c, area) for c, area in zip(CLASSES, units)))
+
+
+def matrix(*cells):
+    """144 probabilities: some cells, and the rest of each row on the diagonal."""
+    return table(*cells, *((c, c, 1000000 - sum(p for i, _, p in cells if i == c)) for c in CLASSES))
+
+
+def opening(option, first, n, project, belt, probabilities=None):
+    records = [("HD", [option, first, n]), ("PA", project), ("DA", belt)]
+    return records + [("MP", probabilities or matrix())] if option == 2 else records
+
+
+def year(number, days, project, belt, *activities):
+    return [("YR", [number, days]), ("CP", project), ("CD", belt), *activities]
+
+
+def case_a():
+    lost = table(("E", "E", 99000000), ("E", "NF", 1000000))
+    return opening(1, 2020, 1, areas(E=100000000), areas()) + year(2020, 366, lost, table(), ("FU", [1, 100000])) + [END]
+
+
+def pieces(records):
+    """The records of the opening, and of each year."""
+    starts = [k for k, (mark, _) in enumerate(records) if mark == "YR"]
+    ends = starts[1:] + [len(records) - records.count(END)]
+    return records[:starts[0]], [records[a:b] for a, b in zip(starts, ends)]
+
+
+# Sound dossiers
+
+def small(rng):
+    return dict(n=rng.randint(1, 3), project=rng.randint(1, 1000), belt=rng.randint(0, 1000), activities=rng.randint(0, 3))
+
+
+def typical(rng):
+    return dict(n=rng.randint(1, 4), project=rng.randint(1, LIMIT), belt=rng.randint(0, LIMIT), activities=rng.choice((0, 1, 5, 60)))
+
+
+def full(rng):
+    return dict(n=rng.randint(1, 2), project=LIMIT, belt=LIMIT, activities=2)
+
+
+def bare(rng):
+    return dict(n=rng.randint(1, 3), project=rng.choice((1, LIMIT)), belt=0, activities=0, cells=1)
+
+
+def long(rng):
+    return dict(n=20, project=rng.randint(1, LIMIT), belt=rng.randint(0, LIMIT), activities=60)
+
+
+def greatest(rng):
+    return dict(option=2, first=2200, n=20, project=LIMIT, belt=LIMIT, activities=60, cells=1, most=True)
+
+
+def parts(rng, total, count, cells):
+    """Numbers that add up to a total, at most so many cells of them not zero."""
+    numbers = [0] * count
+    for _ in range(cells - 1):
+        numbers[rng.randrange(count)] += (part := rng.randint(0, total))
+        total -= part
+    numbers[rng.randrange(count)] += total
+    return numbers
+
+
+def activity(rng, most=False):
+    mark = rng.choice(list(GREATEST))
+    kinds, amounts = (2, 2) if mark == "NI" else (1, len(GREATEST[mark]) - 1)
+    fields = [rng.randint(1, top) for top in GREATEST[mark][:kinds]] + GREATEST[mark][kinds:]
+    product = 1
+    for f in rng.sample(range(kinds, kinds + amounts), amounts):
+        top = min(fields[f], LIMIT // product) if mark == "VE" else fields[f]
+        fields[f] = top if most else rng.choice((0, 1, top, rng.randint(0, top), rng.randint(0, top)))
+        product *= max(fields[f], 1)
+    return mark, fields
+
+
+def made(rng, n, project, belt, activities, option=None, first=None, cells=None, most=False):
+    def spread(total, count):
+        return parts(rng, total, count, cells or rng.choice((1, 3, count)))
+
+    first = first or rng.choice((2000, 2096, 2100, 2200, rng.randint(2000, 2200)))
+    rows = [p for _ in CLASSES for p in spread(1000000, 12)]
+    records = opening(option or rng.randint(1, 2), first, n, spread(project, 12), spread(belt, 12), rows)
+    for number in range(first, first + n):
+        days = days_of(number) if most else rng.choice((1, days_of(number), rng.randint(1, 365)))
+        run = [activity(rng, most) for _ in range(activities)]
+        records += year(number, days, spread(project, 144), spread(belt, 144), *run)
+    return records + [END]
+
+
+def sound(rng, kind):
+    return made(rng, **kind(rng))
+
+
+# Ways to spoil the records
+
+def pick(rng, records, marks=FIELDS):
+    """The index of a record of these marks, each mark as likely as another."""
+    mark = rng.choice([mark for mark in marks if any(record[0] == mark for record in records)])
+    return rng.choice([k for k, record in enumerate(records) if record[0] == mark])
+
+
+def changed(records, k, cells):
+    """The records with some fields of one replaced, modulo their width."""
+    mark, fields = records[k]
+    fields = [cells.get(f, value) % 2**BITS[FIELDS[mark][f]] for f, value in enumerate(fields)]
+    return records[:k] + [(mark, fields)] + records[k + 1:]
+
+
+def off_by_one(rng, records):
+    k = pick(rng, records, WITH_FIELDS)
+    f = rng.randrange(len(records[k][1]))
+    return changed(records, k, {f: records[k][1][f] + rng.choice((1, -1))})
+
+
+def wrapped(rng, records):
+    """Some numbers of a sum changed, which stays the same modulo 2^64, or 2^32 in MP."""
+    k = pick(rng, records, SUMS)
+    mark, fields = records[k]
+    bits = BITS[FIELDS[mark][0]]
+    row = range(len(fields))[12 * rng.randrange(12):][:12] if mark == "MP" else range(len(fields))
+    spots = rng.sample(row, rng.randint(2, 12))
+    shifts = [rng.choice((2**(bits - 1), rng.randrange(2**bits))) for _ in spots[1:]]
+    return changed(records, k, {f: fields[f] + shift for f, shift in zip(spots, [*shifts, -sum(shifts)])})
+
+
+def head_edge(rng, records):
+    f, value = rng.choice(((0, 0), (0, 3), (1, 1999), (1, 2201), (2, 0), (2, 21), (2, 255)))
+    return changed(records, pick(rng, records, ["HD"]), {f: value})
+
+
+def year_edge(rng, records):
+    k = pick(rng, records, ["YR"])
+    number = records[k][1][0]
+    days = days_of(number)
+    f, value = rng.choice(((0, number - 1), (0, number + 1), (0, 0), (1, 0), (1, days), (1, days + 1), (1, 366), (1, 65535)))
+    return changed(records, k, {f: value})
+
+
+def activity_edge(rng, records):
+    k = pick(rng, records, GREATEST)
+    top = GREATEST[records[k][0]]
+    f = rng.randrange(len(top))
+    return changed(records, k, {f: rng.choice((0, top[f], top[f] + 1, -1))})
+
+
+def product_edge(rng, records):
+    count, average, each = rng.choice(((1000, 1000000, 1000), (1000, 1000000, 1001), (1000, 10001, 100000), (11, 1000000, 100000)))
+    return changed(records, pick(rng, records, ["VE"]), {1: count, 2: average, 3: each})
+
+
+def misplaced(rng, records):
+    """A record left out, twice, or in another's place."""
+    j, k = pick(rng, records), pick(rng, records)
+    return records[:j] + rng.choice(([], [records[j]] * 2, [records[k]])) + records[j + 1:]
+
+
+def other_years(rng, records):
+    """A year left out, twice, or in another's place."""
+    head, years = pieces(records)
+    j, k = rng.randrange(len(years)), rng.randrange(len(years))
+    years[j:j + 1] = rng.choice(([], [years[j]] * 2, [years[k]]))
+    return head + [record for run in years for record in run] + records[-1:] * records.count(END)
+
+
+def crowded(rng, records):
+    """A year of 61 activity records or more."""
+    k = pick(rng, records, ["CD"])
+    return records[:k + 1] + [activity(rng) for _ in range(61)] + records[k + 1:]
+
+
+# Ways to spoil the bytes
+
+def cut(rng, records):
+    """The bytes end between records, inside a mark, after it, inside a field, or one too early."""
+    k = pick(rng, records)
+    start, end = places(records)[k:k + 2]
+    return encode(records)[:rng.choice((start, start + 1, min(start + 2, end - 1), end - 1, rng.randrange(start, end)))]
+
+
+def cut_crowd(rng, records):
+    """A 61st activity record of which little more than the mark is there."""
+    crowd = records[:pick(rng, records, ["CD"]) + 1] + [activity(rng) for _ in range(61)]
+    return encode(crowd)[:places(crowd)[-2] + rng.randint(1, 9)]
+
+
+def padded(rng, records):
+    """Bytes beyond: one, two, some, another EN, another record, or more than any dossier has."""
+    some, record = rng.randbytes(rng.randint(3, 40)), encode([records[pick(rng, records)]])
+    return encode(records) + rng.choice((rng.randbytes(1), rng.randbytes(2), some, b"EN", record, bytes(66000)))
+
+
+def flipped(rng, records):
+    data, at = bytearray(encode(records)), places(records)
+    for _ in range(rng.choice((1, 1, 2))):
+        k = pick(rng, records)
+        data[rng.randrange(at[k], at[k + 1])] ^= 1 << rng.randrange(8)
+    return bytes(data)
+
+
+def other_mark(rng, records):
+    data, at = bytearray(encode(records)), places(records)[pick(rng, records)]
+    data[at:at + 2] = rng.choice([*FIELDS, "en", "\0\0"]).encode()
+    return bytes(data)
+
+
+def two_faults(rng, records):
+    once = rng.choice([way for way in ways(records) if way in RECORD_WAYS])(rng, records)
+    return spoiled(rng, once, rng.choice(ways(once))) if once else b""
+
+
+RECORD_WAYS = {off_by_one: WITH_FIELDS, wrapped: SUMS, head_edge: ["HD"], year_edge: ["YR"], activity_edge: GREATEST, product_edge: ["VE"],
+               misplaced: FIELDS, other_years: ["YR"], crowded: ["CD"]}
+BYTE_WAYS = {cut: FIELDS, cut_crowd: ["CD"], padded: FIELDS, flipped: FIELDS, other_mark: FIELDS, two_faults: FIELDS}
+
+
+def ways(records):
+    """The ways that find a mark which they need."""
+    marks = {mark for mark, _ in records}
+    return [way for way, needs in (RECORD_WAYS | BYTE_WAYS).items() if marks.intersection(needs)]
+
+
+def spoiled(rng, records, way):
+    return encode(way(rng, records)) if way in RECORD_WAYS else way(rng, records)

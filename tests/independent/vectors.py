@@ -1,0 +1,513 @@
+#!/usr/bin/env python3
+"""Makes what the programs vectors and ledgertrace read, and the text due of each by the independent reckoner.
+
+    python3 tests/independent/vectors.py            writes stdin and stdout of crates/vectors and crates/ledgertrace
+    python3 tests/independent/vectors.py --check    fails where a stored file is another
+
+A vector is a label, a dossier and the length of a buffer filled with 165. Each states here its number, and the figures that tell.
+"""
+import pathlib
+import struct
+import sys
+
+import reckoner
+from compare import closing, lent, trace
+from dossiers import END, FIELDS, GREATEST, LIMIT, areas, case_a, changed, encode, matrix, opening, pieces, places, stays, table, year
+
+ROOT = pathlib.Path(__file__).resolve().parents[2]
+FIGURES = "reference project activity belt belt_reference displaced reduction credited total tonnes balance belt_balance".split()
+
+PROJECT, BELT = areas(E=700000, SE=200000, MR=90000, TP=10000), areas(E=50000, FR=30000, NF=20000)
+MATRIX = matrix(("E", "NF", 20000), ("E", "SE", 3000), ("SE", "E", 15000), ("MR", "E", 50000), ("FR", "NF", 97200), ("NF", "E", 1000))
+RUN = [("FU", [2, 1234567]), ("VE", [1, 3, 12000, 90]), ("NI", [1, 2, 50000, 4600]), ("LI", [3, 10000])]
+
+
+# Dossiers
+
+def years_of(option, first, n, project, belt, tables, probabilities=None, days=(), run=()):
+    """n years of the same tables and records."""
+    days = days or [reckoner.days_of(first + y) for y in range(n)]
+    records = opening(option, first, n, project, belt, probabilities)
+    return records + [record for y in range(n) for record in year(first + y, days[y], *tables, *run)] + [END]
+
+
+def one_year(option, project, belt, converted, belt_converted, *run, probabilities=None, first=2019, days=365):
+    return years_of(option, first, 1, project, belt, (converted, belt_converted), probabilities, [days], run)
+
+
+def emitting(*run, first=2019, days=365):
+    """A year without forest: its activities are all that it emits."""
+    return one_year(1, areas(NF=1), areas(), table(("NF", "NF", 1)), table(), *run, first=first, days=days)
+
+
+def limestone(grams):
+    """Lime that emits so many grams of CO2."""
+    return "LI", [1, grams * 300 // 132]
+
+
+def base(option=1, n=1, run=RUN):
+    """A sound dossier from 2019 on; each year has tables of its own."""
+    records = opening(option, 2019, n, PROJECT, BELT, MATRIX)
+    for y in range(n):
+        project = table(("E", "E", 690000 - y), ("E", "NF", 10000 + y), ("SE", "E", 5000), ("SE", "SE", 195000), ("MR", "MR", 90000),
+                        ("TP", "NF", 10000))
+        belt = table(("E", "B", 3000 + y), ("E", "NF", 2000), ("E", "E", 45000 - y), ("FR", "FR", 30000), ("NF", "NF", 20000))
+        records += year(2019 + y, 300 + y, project, belt, *run)
+    return records + [END]
+
+
+# Vectors
+
+def index(records, mark, nth=0):
+    return [k for k, record in enumerate(records) if record[0] == mark][nth]
+
+
+def fields(records, mark, nth=0):
+    return records[index(records, mark, nth)][1]
+
+
+def put(records, mark, cells, nth=0):
+    return changed(records, index(records, mark, nth), cells)
+
+
+def before(records, mark, nth=0):
+    """The bytes before a record."""
+    return encode(records[:index(records, mark, nth)])
+
+
+def accepted(label, records, room=None, **figures):
+    return label, 0, encode(records), 64 * records[0][1][2] + 32 if room is None else room, figures
+
+
+def refused(number, label, data, room=1312):
+    return label, number, data if isinstance(data, bytes) else encode(data), room, {}
+
+
+def fault(number, label, records, mark, cells, nth=0):
+    """A record with some fields changed, at which the bytes end."""
+    k = index(records, mark, nth)
+    return refused(number, label, changed(records, k, cells)[:k + 1])
+
+
+# Document 01's examples and edges
+
+def examples():
+    yield accepted("case A", case_a(), reference=833569000, project=334766667, activity=318630, reduction=498483703, credited=398786962,
+                   total=398786962, tonnes=398, balance=0, belt_balance=0)
+    for i, j, factor, grams in (("E", "SE", 0, 0), ("E", "TP", 0, 0), ("MR", "E", 110, 5), ("TP", "NF", 5654, 208)):
+        moved = one_year(2, areas(**{i: 1}), areas(), table((i, j, 1)), table())
+        yield accepted(f"factor {factor} from {i} to {j}", moved, project=grams)
+    yield accepted("diesel 1,000 g", emitting(("FU", [1, 1000])), activity=3187)
+    yield accepted("NI 1, 1, 1,000,000, 4,600", emitting(("NI", [1, 1, 1000000, 4600])), activity=2854202)
+    yield accepted("limestone 1 g", emitting(("LI", [1, 1])), activity=1)
+    for loss, credited in ((1, -1), (4, -4), (5, -4), (6, -5)):
+        yield accepted(f"reduction -{loss}", emitting(limestone(loss)), reduction=-loss, credited=credited, total=credited, tonnes=0)
+    three = areas(E=3)
+    yield accepted("E 3 units", one_year(1, three, areas(), stays(three), table()), reference=0, balance=1)
+
+
+def edges():
+    yield longest()
+    yield refused(3, "n 21", put(base(), "HD", {2: 21}))
+    yield refused(5, "row sum 999,999", put(base(2), "MP", {0: MATRIX[0] - 1}))
+    yield refused(5, "row sum 1,000,001", put(base(2), "MP", {143: MATRIX[143] + 1}))
+    for first, days in ((2000, 366), (2096, 366), (2100, 365)):
+        yield accepted(f"{first} has a day {days}", emitting(first=first, days=days))
+    for first, days in ((2000, 367), (2096, 367), (2100, 366), (2200, 366), (2019, 366)):
+        yield refused(6, f"{first} has no day {days}", emitting(first=first, days=days)[:-3])
+    yield refused(6, "2100 has no day 366, whole dossier", emitting(first=2100, days=366))
+    tables = stays(PROJECT), stays(BELT)
+    yield accepted("2099 and 2100", years_of(1, 2099, 2, PROJECT, BELT, tables))
+    yield refused(6, "2100 as the second year has no day 366", years_of(1, 2099, 2, PROJECT, BELT, tables, days=(365, 366))[:7])
+
+
+def longest():
+    """As many records as there can be, and amounts as great as they can be."""
+    records = opening(2, 2200, 20, areas(SE=LIMIT), areas(SE=LIMIT), matrix(("SE", "NF", 1000000), ("NF", "SE", 1000000)))
+    for y in range(20):
+        lost = table(("SE", "NF", LIMIT - y), ("SE", "SE", y))
+        records += year(2200 + y, reckoner.days_of(2200 + y), lost, lost, *[("VE", [1, 1000, 10000, 100000])] * 60)
+    assert len(encode(records + [END])) == 65062
+    return accepted("n 20, the longest dossier", records + [END])
+
+
+# Each cause at each place
+
+def cuts():
+    for mark, form in FIELDS.items():
+        records = base(2 if mark == "MP" else 1)
+        data, (start, end) = encode(records), places(records)[index(records, mark):][:2]
+        yield refused(1, f"cut before {mark}", data[:start])
+        yield refused(1, f"cut inside the mark {mark}", data[:start + 1])
+        for f in range(min(len(form), 2)):
+            yield refused(1, f"cut before field {f + 1} of {mark}", data[:start + 2 + struct.calcsize(">" + form[:f])])
+        if form:
+            yield refused(1, f"cut before the last byte of {mark}", data[:end - 1])
+    yield refused(1, "cut before YR, Option 2", before(base(2), "YR"))
+    yield refused(1, "cut before the second YR", before(base(n=2), "YR", 1))
+    yield refused(1, "a byte that begins no mark", b"?")
+    yield refused(1, "a byte that begins no mark after LI", before(base(), "EN") + b"?")
+
+
+def marks():
+    """Another mark wherever one is due, and nothing after it."""
+    one, run = base(), [*GREATEST, "YR", "EN"]
+    spots = [("at the start", b"", ["HD"]), ("after HD", before(one, "PA"), ["PA"]), ("after PA", before(one, "DA"), ["DA"]),
+             ("after DA, Option 1", before(one, "YR"), ["YR"]), ("after DA, Option 2", before(base(2), "MP"), ["MP"]),
+             ("after MP", before(base(2), "YR"), ["YR"]), ("after YR", before(one, "CP"), ["CP"]), ("after CP", before(one, "CD"), ["CD"]),
+             ("after CD", before(one, "FU"), run)]
+    for place, data, due in spots:
+        for mark in [mark for mark in (*FIELDS, due[0].lower(), "??") if mark not in due]:
+            yield refused(2, f"{mark} {place}", data + mark.encode())
+    yield refused(2, "CD after LI", before(one, "EN") + b"CD")
+    yield refused(2, "EN after the first of two years", before(base(n=2), "YR", 1) + b"EN")
+
+
+def heads():
+    for f, name, values in ((0, "option", (0, 3, 255)), (1, "first year", (0, 1999, 2201, 65535)), (2, "n", (0, 22, 255))):
+        for value in values:
+            yield fault(3, f"{name} {value}", base(), "HD", {f: value})
+    yield refused(3, "option 3, whole dossier", put(base(2), "HD", {0: 3}))
+    yield refused(3, "n 0 and no year", put(base()[:3] + [END], "HD", {2: 0}))
+
+
+def totals():
+    """Totals 0, 1, 10^12, one more, and those that are sound modulo 2^64."""
+    def dossier(mark, cells):
+        units = [cells.get(k, 0) for k in range(12)]
+        project, belt = (units, areas()) if mark == "PA" else (areas(NF=1), units)
+        return one_year(1, project, belt, table(("NF", "NF", sum(project) % 2**64)), table(("NF", "NF", sum(belt) % 2**64)))
+
+    even = {k: LIMIT // 12 for k in range(12)}
+    yield accepted("DA total 0", dossier("DA", {}))
+    for mark in ("PA", "DA"):
+        for name, cells in (("1", {5: 1}), ("10^12 in its last area", {11: LIMIT}), ("10^12 in all areas", even | {3: LIMIT // 12 + 4})):
+            yield accepted(f"{mark} total {name}", dossier(mark, cells))
+        yield refused(4, f"{mark} total 2^64 + 7", dossier(mark, {0: 2**63, 1: 2**63, 2: 7}))
+        for name, cells in (("2^64 + 1 by its last area", {0: 1000, 11: 2**64 - 999}),
+                            ("10^12 + 1 in its first area", {0: LIMIT + 1}), ("10^12 + 1 in its last area", {11: LIMIT + 1}),
+                            ("10^12 + 1 by its last area", {0: LIMIT, 11: 1}), ("10^12 + 1 in all areas", even | {7: LIMIT // 12 + 5}),
+                            ("2^65 + 7", dict.fromkeys(range(4), 2**63) | {11: 7}), ("12 x (2^64 - 1)", dict.fromkeys(range(12), -1))):
+            yield fault(4, f"{mark} total {name}", dossier(mark, {}), mark, {k: cells.get(k, 0) for k in range(12)})
+    yield fault(4, "PA total 0", dossier("PA", {}), "PA", {})
+
+
+def rows():
+    records = base(2)
+    for i, name in enumerate(reckoner.CLASSES):
+        yield fault(5, f"row sum 999,999 of {name}", records, "MP", {13 * i: MATRIX[13 * i] - 1})
+        yield fault(5, f"row sum 1,000,001 of {name}", records, "MP", {13 * i: MATRIX[13 * i] + 1})
+    for i, name in ((0, "E"), (11, "NF")):
+        row = dict.fromkeys(range(12 * i, 12 * i + 12), 0)
+        yield fault(5, f"row sum 0 of {name}", records, "MP", row)
+        yield fault(5, f"row sum 2^32 + 1,000,000 of {name}", records, "MP", {12 * i + 2: 2**31, 12 * i + 5: 2**31})
+        yield fault(5, f"row sum 2^32 + 1,000,000 of {name} by its last number", records, "MP", row | {12 * i: 1000001, 12 * i + 11: -1})
+    yield fault(5, "row sums 999,999 and 1,000,001", records, "MP", {13: MATRIX[13] - 1, 26: MATRIX[26] + 1})
+    yield fault(5, "matrix turned over", records, "MP", {12 * j + i: MATRIX[12 * i + j] for i in range(12) for j in range(12)})
+
+
+def years():
+    one, two = base(run=[]), base(n=2, run=[])
+    for name, number in (("before", 2018), ("after", 2020), ("0", 0), ("65535", 65535)):
+        yield fault(6, f"first YR: year {name}", one, "YR", {0: number})
+    for name, number in (("again", 2019), ("after a gap", 2021)):
+        yield fault(6, f"second YR: year {name}", two, "YR", {0: number}, 1)
+    for days in (0, 367, 65535):
+        yield fault(6, f"first YR: d {days}", one, "YR", {1: days})
+    for days in (0, 367):
+        yield fault(6, f"second YR: d {days}", two, "YR", {1: days}, 1)
+    yield accepted("second YR: d 366", put(two, "YR", {1: 366}, 1))
+    yield refused(6, "YR after the last year", one[:-1] + [("YR", [2020, 300])])
+    yield refused(6, "a year more than n", put(two, "HD", {2: 1}))
+    yield refused(1, "YR cut after the last year", encode(one[:-1] + [("YR", [2020, 300])])[:-1])
+    yield refused(1, "mark YR alone after the last year", encode(one[:-1]) + b"YR")
+    yield refused(2, "a year less than n", put(one, "HD", {2: 2}))
+
+
+def conversions():
+    one, two = base(), base(n=2, run=[])
+    for mark in ("CP", "CD"):
+        cells = fields(one, mark)
+        for name, other in (("2^64 more", {5: 2**63, 6: 2**63}), ("2^64 more by its last cell", {1: -1, 143: cells[143] + 1})):
+            yield refused(7, f"{mark} total {name}", put(one, mark, other))
+        for name, other in (("one less", {0: cells[0] - 1}), ("one more", {0: cells[0] + 1}), ("one more at last", {143: cells[143] + 1}),
+                            ("2^65 more", dict.fromkeys((3, 4, 5, 6), 2**63)), ("144 x (2^64 - 1)", dict.fromkeys(range(144), -1)),
+                            ("0", dict.fromkeys(range(144), 0))):
+            yield fault(7, f"{mark} total {name}", one, mark, other)
+        yield fault(7, f"second {mark} total one less", two, mark, {0: fields(two, mark, 1)[0] - 1}, 1)
+    yield fault(7, "CP total without its diagonal", one, "CP", dict.fromkeys(range(0, 144, 13), 0))
+    yield fault(7, "CP total that of DA", one, "CP", dict(enumerate(fields(one, "CD"))))
+    yield fault(7, "CD total that of PA", one, "CD", dict(enumerate(fields(one, "CP"))))
+    yield fault(7, "CD total 1 where DA is zero", emitting(), "CD", {0: 1})
+    yield accepted("rows of CP other than PA", one_year(1, areas(E=5), areas(), table(("SE", "NF", 5)), table()), project=2478)
+
+
+def activities():
+    names = {"FU": ("kind", "grams"), "VE": ("kind", "count", "average", "rate"), "NI": ("source", "crop", "grams", "content"),
+             "LI": ("material", "grams")}
+    for mark, top in GREATEST.items():
+        least = [1 if name in ("kind", "source", "crop", "material") else 0 for name in names[mark]]
+        singly = [(mark, least[:f] + [top[f]] + least[f + 1:]) for f in range(len(top))]
+        yield accepted(f"{mark} with each field at its greatest", emitting(*singly))
+        for f, name in enumerate(names[mark]):
+            for value in (0, top[f] + 1)[1 - least[f]:]:
+                yield refused(8, f"{mark} {name} {value}", emitting((mark, least[:f] + [value] + least[f + 1:])))
+    for mark, f, value in (("FU", 1, 2**64 - 1), ("VE", 1, 2**32 - 1), ("NI", 2, 2**63)):
+        yield refused(8, f"{mark} {names[mark][f]} {value}", put(base(), mark, {f: value}))
+    yield accepted("VE 1000 x 1000000 x 1000", emitting(("VE", [1, 1000, 1000000, 1000])), activity=3186300000000)
+    for count, average, rate in ((1000, 1000000, 1001), (1000, 1000000, 100000)):
+        yield refused(8, f"VE {count} x {average} x {rate}", emitting(("VE", [1, count, average, rate])))
+    yield accepted("zero quantities", emitting(("FU", [3, 0]), ("VE", [2, 0, 0, 0]), ("NI", [3, 2, 0, 0]), ("LI", [2, 0])), activity=0)
+    two = base(n=2)
+    yield fault(8, "a fault in the first year's last record", two, "LI", {0: 0})
+    yield fault(8, "a fault in the second year's first record", two, "FU", {0: 0}, 1)
+
+
+def kinds():
+    """Each kind of record, in amounts that tell which is which."""
+    fuel = [("FU", [1, 1000000]), ("FU", [2, 10000000]), ("FU", [3, 100000000])]
+    yield accepted("diesel, gasoline and crude", emitting(*fuel), activity=3186300 + 30699900 + 310059000)
+    vehicles = [("VE", [1, 10, 1000, 100]), ("VE", [2, 10, 10000, 100]), ("VE", [3, 10, 10000, 1000])]
+    yield accepted("vehicles on diesel, gasoline and crude", emitting(*vehicles), activity=3186300 + 30699900 + 310059000)
+    nitrogen = [("NI", [*fields, 10000]) for fields in ((1, 1, 7000), (2, 1, 10**10), (3, 1, 7 * 10**7), (1, 2, 70000), (2, 2, 7 * 10**6),
+                                                        (3, 2, 7 * 10**8))]
+    grams = 43434 + 66730714286 + 401555000 + 204875 + 23765500 + 1720950000
+    yield accepted("nitrogen of each source and crop", emitting(*nitrogen), activity=grams)
+    lime = [("LI", [1, 1000]), ("LI", [2, 1000000]), ("LI", [3, 1000000000])]
+    yield accepted("limestone, dolomite and urea", emitting(*lime), activity=440 + 476667 + 733333334)
+
+
+def sixty():
+    full = emitting(*[RUN[k % 4] for k in range(60)])
+    yield accepted("60 records", full)
+    yield refused(9, "61 records", full[:-1] + [RUN[0], END])
+    yield refused(9, "61st record with a fault", full[:-1] + [("LI", [0, 0]), END])
+    for mark in GREATEST:
+        yield refused(9, f"61st mark {mark} alone", encode(full[:-1]) + mark.encode())
+    yield refused(1, "one byte after 60 records", encode(full[:-1]) + b"F")
+    two = base(n=2, run=[RUN[3]] * 60)
+    yield accepted("60 records in each of two years", two)
+    yield refused(9, "61 records in the second year", two[:-1] + [RUN[3]])
+
+
+def endings():
+    data = encode(base(run=[]))
+    for name, more in (("one byte", b"\n"), ("two bytes", b"\r\n"), ("EN", b"EN"), ("YR", b"YR"), ("FU", encode(RUN[:1]))):
+        yield refused(2, f"{name} after EN", data + more)
+
+
+# Two faults, buffers, slips
+
+def orders():
+    """The earlier fault counts; within a record the mark, 9, bytes missing, fields."""
+    one, run = base(2), base()
+    for number, mark, records, cells in ((3, "HD", one, {0: 3}), (4, "PA", one, {0: 2**63}), (4, "DA", one, {0: 2**63}),
+                                         (5, "MP", one, {0: 1}), (6, "YR", run, {1: 366}), (7, "CP", run, {0: 2**63}),
+                                         (7, "CD", run, {0: 2**63}), (8, "FU", run, {0: 4})):
+        data = fault(number, "", records, mark, cells)[2]
+        yield refused(1, f"wrong {mark}, and cut", data[:-1])
+        yield refused(number, f"wrong {mark}, then another mark", data + b"??")
+    yield refused(3, "n 21, then wrong PA total", put(put(one, "PA", {0: 2**63}), "HD", {2: 21})[:2])
+    yield refused(4, "wrong PA total, then wrong DA total", put(put(one, "PA", {0: 2**63}), "DA", {0: 2**63})[:3])
+    yield refused(4, "wrong DA total, then wrong MP row", put(put(one, "DA", {0: LIMIT}), "MP", {0: 1})[:4])
+    yield refused(5, "wrong MP row, then wrong year", put(put(one, "MP", {0: 1}), "YR", {0: 0})[:5])
+    yield refused(6, "wrong days, then wrong CP total", put(put(run, "YR", {1: 0}), "CP", {0: 0})[:5])
+    yield refused(7, "wrong CP total, then wrong CD total", put(put(run, "CP", {0: 0}), "CD", {0: 0})[:6])
+    yield refused(7, "wrong CD total, then wrong FU field", put(put(run, "CD", {0: 0}), "FU", {0: 0}))
+    full = emitting(*[RUN[0]] * 60)[:-1]
+    yield refused(8, "wrong field in the 60th record, then a 61st", put(full, "FU", {0: 4}, 59) + [RUN[0]])
+    two = base(n=2, run=RUN[:1])
+    yield refused(8, "wrong field in the first year, then wrong year", put(put(two, "FU", {0: 0}), "YR", {0: 2019}, 1)[:8])
+    yield refused(6, "a year more than n, then wrong CP total", put(put(two, "HD", {2: 1}), "CP", {0: 0}, 1)[:9])
+    for number, data in {1: encode(run)[:-1], 2: encode(run) + b"\0", 3: put(run, "HD", {2: 0})[:1], 4: put(run, "PA", {0: LIMIT})[:2],
+                         5: put(one, "MP", {0: 1})[:4], 6: put(run, "YR", {1: 0})[:4], 7: put(run, "CD", {0: 0})[:6],
+                         8: put(run, "LI", {0: 0}), 9: full + RUN[:1]}.items():
+        yield refused(number, f"{number} comes before 10", data, room=0)
+
+
+def buffers():
+    one = base(run=[])
+    for room in (96, 103, 104):
+        yield accepted(f"buffer {room} of 96", one, room)
+    for room in (0, 95):
+        yield refused(10, f"buffer {room} of 96", one, room)
+    yield refused(10, "buffer 159 of 160", base(n=2, run=[]), 159)
+
+
+def slips():
+    """Where the old product comes to another answer."""
+    two = base(n=2, run=[])
+    for mark in ("CP", "CD"):
+        k = index(two, mark, 1)
+        yield refused(2, f"second {mark} missing", two[:k] + two[k + 1:])
+        yield refused(1, f"second {mark} missing at the end", two[:k])
+    yield accepted("each year by its own tables", base(2, 3), project=6224653, belt=1674503)
+    forest, bare = areas(E=100000000), areas(NF=1)
+    yield accepted("discount 20 percent", one_year(1, forest, areas(), stays(forest), table()), reference=833569000, credited=666855200)
+    vast, turned = areas(SE=LIMIT), matrix(("SE", "NF", 1000000))
+    records = one_year(2, vast, vast, stays(vast), table(("SE", "NF", LIMIT)), probabilities=turned, first=2000)
+    yield accepted("carbon x 11 x d past 64 bits", records, reference=494049772313296, belt=495403333333334, displaced=1353561020038)
+    yield accepted("belt rounded up", one_year(1, bare, areas(E=1), stays(bare), table(("E", "NF", 1))), belt=335, displaced=335)
+    pair = table(("D", "D", 1), ("MR", "M", 1))  # the belt loses 30.25 g, its reference is 20.39 g
+    lost = one_year(2, bare, areas(D=1, MR=1), stays(bare), pair, probabilities=matrix(("D", "FR", 1000000)))
+    yield accepted("displaced of rounded figures", lost, belt=31, belt_reference=20, displaced=11, reduction=-11)
+    spared = one_year(1, bare, forest, stays(bare), stays(forest))
+    yield accepted("displaced never negative", spared, belt_reference=833569000, displaced=0, reduction=0)
+
+
+def roundings():
+    """Where a rounding elsewhere comes to another figure."""
+    yield accepted("each activity rounded by itself", emitting(("LI", [1, 1]), ("LI", [1, 1]), ("FU", [1, 1])), activity=6)
+    lost = table(("MR", "E", 1), ("FR", "FF", 1))  # 4.03 and 10.23 g
+    yield accepted("project rounded once", one_year(2, areas(MR=1, FR=1), areas(), lost, table()), project=15)
+    one = areas(MR=1)
+    turned = one_year(2, one, one, stays(one), stays(one), probabilities=matrix(("MR", "E", 1000000)), days=364)
+    yield accepted("reference rounded once", turned, reference=4, belt_reference=4)
+    split = areas(E=1, SE=1)
+    yield accepted("each flow rounded by itself", one_year(1, split, areas(), stays(split), table()), balance=2)
+    losses = years_of(1, 2019, 2, areas(NF=1), areas(), (table(("NF", "NF", 1)), table()), run=[limestone(3)])
+    yield accepted("each year's credit rounded by itself", losses, credited=-3, total=-6)
+    forest = areas(E=100000000)
+    for reduction, total, tonnes in ((1249999, 999999, 0), (1250000, 1000000, 1)):
+        records = one_year(1, forest, areas(), stays(forest), table(), limestone(833569000 - reduction))
+        yield accepted(f"total {total}", records, reduction=reduction, total=total, tonnes=tonnes)
+
+
+def every_class():
+    """Amounts that show any other stock or probability."""
+    each = [10000 * (k + 1) for k in range(12)]
+    gone = table(*((c, "NF", a) for c, a in zip(reckoner.CLASSES, each)))
+    yield accepted("each class into NF, Option 1", one_year(1, each, each, gone, gone), reference=6190708, project=138077500, balance=0)
+    pairs = [(i, j, 1000 * (12 * r + c + 1)) for r, i in enumerate(reckoner.CLASSES) for c, j in enumerate(reckoner.CLASSES)]
+    mixed = matrix(*((i, j, units // 10) for i, j, units in pairs if i != j))
+    units = [sum(units for i, _, units in pairs if i == c) for c in reckoner.CLASSES]
+    records = one_year(2, units, areas(), table(*pairs), table(), probabilities=mixed)
+    yield accepted("each pair of classes, Option 2", records, project=483424664)
+
+
+def projections():
+    forest, bare = areas(E=1000000), areas(NF=1000000)
+    stay, gone, bamboo = stays(forest), table(("E", "NF", 1000000)), table(("E", "B", 1000000))
+    records = years_of(1, 2019, 2, forest, areas(), (gone, table()), days=(1, 366))
+    yield accepted("d and CP leave the projection alone", records, reference=8127799)
+    yield accepted("E to B does not count, Option 1", one_year(1, forest, forest, bamboo, bamboo), project=0, belt=0)
+    yield accepted("E to B counts, Option 2", one_year(2, forest, forest, bamboo, bamboo), project=334766667, belt=334766667)
+    turned = matrix(("NF", "E", 1000000), ("E", "NF", 1000000))
+    records = years_of(2, 2019, 2, bare, forest, (stays(bare), stay), turned)
+    yield accepted("project and belt by the same matrix", records, reference=334766666, belt_reference=0)
+
+
+# The calls on a ledger, each with its number
+
+def opens(number, data):
+    return number, lent(b"O", data if isinstance(data, bytes) else encode(data))
+
+
+def gives(number, data):
+    return number, lent(b"Y", data if isinstance(data, bytes) else encode(data))
+
+
+def closes(number, room):
+    return number, closing(room)
+
+
+def empty_ledger():
+    due = encode(pieces(case_a())[1][0])
+    yield from (closes(0, 32), closes(10, 31), closes(10, 0), closes(0, 40), closes(0, 65536))
+    yield from (gives(6, due), gives(1, b""), gives(1, b"Y"), gives(2, b"CP"), gives(1, due[:5]), gives(6, due[:6]), gives(6, due + b"??"))
+    yield closes(0, 32)
+
+
+def refused_openings():
+    one, two = pieces(base())[0], pieces(base(2))[0]
+    sound = encode(two)
+    for number, data in ((1, b""), (1, sound[:1]), (1, sound[:-1]), (1, two[:3]), (2, sound[:6] + b"DA"), (3, put(two, "HD", {0: 0})),
+                         (3, put(two, "HD", {1: 2201})), (3, put(two, "HD", {2: 21})), (4, put(two, "PA", {0: LIMIT})),
+                         (4, put(two, "DA", {0: LIMIT})), (5, put(two, "MP", {0: 0})), (5, put(two, "MP", {143: 1000001})),
+                         (1, sound + b"Y"), (2, sound + b"YR"), (1, encode(one) + b"\0"), (2, encode(one) + b"MP"), (2, base(2))):
+        yield opens(number, data)
+        yield closes(0, 32)
+    yield gives(6, pieces(base(2))[1][0])
+    yield closes(10, 31)
+
+
+def case_a_ledger():
+    head, (due,) = pieces(case_a())
+    yield from (opens(0, head), closes(0, 32), closes(10, 31), gives(0, due))
+    yield from (closes(0, 96), closes(10, 95), closes(10, 0), closes(0, 104), closes(0, 1312), gives(6, due), closes(0, 96))
+
+
+def three_years():
+    head, dues = pieces(base(2, 3))
+    yield opens(0, head)
+    for y, due in enumerate(dues):
+        sound, tables, sixty = encode(due), due[:3], due[:3] + RUN[:1] * 60
+        yield from (gives(1, sound[:-1]), gives(1, sound + b"L"), gives(1, encode(tables) + b"Y"), closes(0, 64 * y + 32))
+        yield from (gives(2, sound + b"EN"), gives(2, before(due, "CD") + b"FU"), gives(2, encode(tables) + b"YR"), closes(0, 64 * y + 32))
+        yield from (gives(6, dues[y - 1]), gives(6, put(due, "YR", {1: 0})), closes(0, 64 * y + 32))
+        yield from (gives(7, put(due, "CP", {0: 0})), gives(7, put(due, "CD", {5: 2**63, 6: 2**63})), closes(0, 64 * y + 32))
+        yield from (gives(8, put(due, "VE", {1: 1001})), gives(9, sixty + RUN[:1]), gives(9, encode(sixty) + b"NI"))
+        yield gives(0, (sound, tables, sixty)[y])
+        yield from (closes(0, 64 * y + 96), closes(10, 64 * y + 95), closes(0, 64 * y + 200))
+    yield from (gives(6, year(2022, 365, stays(PROJECT), stays(BELT))), gives(6, dues[0]), gives(2, b"FU"))
+    yield from (closes(0, 224), closes(10, 223))
+
+
+def opened_again():
+    head, dues = pieces(base(1, 2))
+    yield from (opens(0, head), closes(0, 32), gives(0, dues[0]), closes(0, 96), opens(0, head), closes(0, 32), gives(6, dues[1]))
+    yield from (gives(0, dues[0]), gives(0, dues[1]), closes(0, 160), opens(1, head[:-1]), closes(0, 32), gives(6, dues[0]), closes(0, 32))
+
+
+# Writing
+
+VECTORS = (examples, edges, cuts, marks, heads, totals, rows, years, conversions, activities, kinds, sixty, endings, orders, buffers,
+           slips, roundings, every_class, projections)
+CALLS = (empty_ledger, refused_openings, case_a_ledger, three_years, opened_again)
+
+
+def line(label, due, data, room, figures):
+    """The vector's line, which has the number and the figures stated of the last year."""
+    buffer = bytearray([165] * room)
+    number, ledger = reckoner.reckon(data, buffer)
+    assert number == due, f"{label}: {number} where {due} is due"
+    found = dict(zip(FIGURES, ledger.numbers()[-12:]))
+    for name, figure in figures.items():
+        assert found[name] == figure, f"{label}: {name} {found[name]} where {figure} is due"
+    words = struct.unpack_from(f">{room // 8}q", buffer) if number == 0 else ()
+    return " ".join(map(str, (label, number, *words))) + "\n"
+
+
+def sized(data):
+    return struct.pack(">I", len(data)) + data
+
+
+def vector_files():
+    vectors = [vector for section in VECTORS for vector in section()]
+    labels = [label for label, *_ in vectors]
+    assert len(labels) == len(set(labels)) and max(map(len, labels)) <= 100, [label for label in labels if labels.count(label) > 1]
+    data = b"".join(sized(label.encode("ascii")) + sized(dossier) + struct.pack(">I", room) for label, _, dossier, room, _ in vectors)
+    return data, "".join(line(*vector) for vector in vectors).encode()
+
+
+def call_files():
+    calls = [call for section in CALLS for call in section()]
+    data = b"".join(call for _, call in calls)
+    text = trace(data)
+    assert [int(answer.split()[1]) for answer in text.splitlines()] == [number for number, _ in calls]
+    return data + lent(b"Y", encode(base()))[:-1], text.encode()
+
+
+def main():
+    for name, contents in (("vectors", vector_files()), ("ledgertrace", call_files())):
+        for stream, content in zip(("stdin", "stdout"), contents):
+            path = ROOT / "crates" / name / stream
+            if "--check" not in sys.argv:
+                path.parent.mkdir(exist_ok=True)
+                path.write_bytes(content)
+            elif not path.exists() or path.read_bytes() != content:
+                sys.exit(f"{path.relative_to(ROOT)} is not what vectors.py makes")
+
+
+if __name__ == "__main__":
+    main()
