@@ -11,7 +11,8 @@ use Rattle.classes.specs.Classes.{classes, NF}
 use Rattle.classes.specs.Matrix.{entry}
 use Rattle.figures.specs.declared.Figures.{Figures}
 
--- reference (document 001: project reference level) = projected carbon × 11 × d ÷ (300 × D), down; belt reference alike
+-- reference (document 001, equations 1 to 3: project reference level) = projected carbon × 11 × d ÷ (300 × D), down; belt reference alike.
+-- 10^-8 tC are 11 ÷ 300 g of CO2: × 44 ÷ 12 × 10^6
 unfoldable pub referenceLevel : ℕ → ℕ → ℕ → ℕ
 referenceLevel carbon d D = carbon * 11 * d / (300 * D)
 
@@ -35,7 +36,7 @@ displacedEmissions belt beltReference = positivePart (belt -ℤ beltReference)
 unfoldable pub reductionOf : (reference project activity displaced : ℤ) → ℤ
 reductionOf reference project activity displaced = reference -ℤ project -ℤ activity -ℤ displaced
 
--- credited = reduction × 4 ÷ 5, rounded down, away from zero for a negative one
+-- credited = reduction × 4 ÷ 5 (document 001, equation 42: discount factor 0.2), rounded down, away from zero for a negative one
 unfoldable pub creditedOf : ℤ → ℤ
 creditedOf reduction = floorDiv (reduction *ℤ pos 4) 5
 
@@ -43,6 +44,19 @@ creditedOf reduction = floorDiv (reduction *ℤ pos 4) 5
 unfoldable pub tonnesOf : ℤ → ℕ
 tonnesOf (pos total) = total / 1000000
 tonnesOf (negsuc n) = 0
+
+-- the figures of a year not given yet
+abbrev pub noFigures : Figures
+noFigures = record {
+  reference = record { 0 = pos 0 };
+  project = record { 0 = pos 0 };
+  activity = record { 0 = pos 0 };
+  belt = record { 0 = pos 0 };
+  «belt_reference» = record { 0 = pos 0 };
+  displaced = record { 0 = pos 0 };
+  reduction = record { 0 = pos 0 };
+  credited = record { 0 = pos 0 };
+}
 
 -- the eight figures of a year, from the five that its tables and records bring
 unfoldable pub figuresOf : (reference project activity belt beltReference : ℤ) → Figures

@@ -9,7 +9,7 @@ ghost use lib.IntN.{pos, negsuc};
 ghost use lib.Signed.{mag};
 ghost use Rattle.classes.specs.Classes.{NF};
 ghost use Rattle.classes.specs.Matrix.{entry, tableOf};
-ghost use Rattle.figures.specs.Figures.{referenceLevel, countedFactor, stockChangeEmissions, displacedEmissions, creditedOf, tonnesOf, figuresOf};
+ghost use Rattle.figures.specs.Figures.{referenceLevel, countedFactor, stockChangeEmissions, displacedEmissions, creditedOf, tonnesOf, noFigures, figuresOf};
 ghost use Rattle.figures.specs.Ranges.{SmallCarbon, SmallYear, SmallGrams};
 
 // The eight figures of a year, in the order in which they are reported.
@@ -22,6 +22,22 @@ pub struct Figures {
     pub displaced: Grams,
     pub reduction: Grams,
     pub credited: Grams,
+}
+
+// The figures of a year not given yet.
+pub fn no_figures() -> Figures
+    ensures { λ r. ⌜ r ≡ noFigures ⌝ }
+{
+    Figures {
+        reference: Grams(0),
+        project: Grams(0),
+        activity: Grams(0),
+        belt: Grams(0),
+        belt_reference: Grams(0),
+        displaced: Grams(0),
+        reduction: Grams(0),
+        credited: Grams(0),
+    }
 }
 
 // The carbon of a region in a year: by its projection, and by its monitored conversions.

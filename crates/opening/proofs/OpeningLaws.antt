@@ -1,7 +1,7 @@
 -- HD to MP at a place, from what the code reads there.
 -- Assumes nothing.
 use Prim.Native.Nat.{ℕ}
-use mathlib.Core.Path.{_≡_, _∙_}
+use mathlib.Core.Path.{_≡_, refl, _∙_}
 use mathlib.Core.Option.{Option}
 use mathlib.Core.List.{List}
 use Rattle.dossier.specs.Marks.{DA}
@@ -13,7 +13,7 @@ use Rattle.opening.specs.declared.Opened.{Opened}
 use Rattle.opening.specs.Answers.{noOpening, openedSays, openedInside, fromBelt}
 
 pub opening-refused : (s : List ℕ) (r : Opened) (n : ℕ) (j : Judged Opening) → r ≡ noOpening n → refused n ≡ j → (openedSays s r ≡ j) × openedInside s r
-opening-refused s r n j e q = rw e (q, tt)
+opening-refused s r n j e q = rw e (q, refl)
 
 -- after DA
 module _ (h : Head) (project u belt v : List ℕ) (e : accepted belt v ≡ areas DA 0 u) where

@@ -114,10 +114,11 @@ openedJudged s r (OpeningAnswer.Refused n) = refused n
 abbrev pub openedSays : List ℕ → Opened → Judged Opening
 openedSays s r = openedJudged s r (r .answer)
 
+-- read: the next record begins inside, the totals are those of the areas, the matrix held is the one in use; refused: all zero
 abbrev pub openedFacts : List ℕ → Opened → OpeningAnswer → Type 0
 openedFacts s r (OpeningAnswer.Read option first years project belt next) =
     (next ≤ length s) × (project .0 ≡ total (amounts (r .project))) × (belt .0 ≡ total (amounts (r .belt))) × (r .matrix ≡ matrixInUse (matrixOf option (r .matrix)))
-openedFacts s r (OpeningAnswer.Refused n) = Unit {0}
+openedFacts s r (OpeningAnswer.Refused n) = r ≡ noOpening n
 
 abbrev pub openedInside : List ℕ → Opened → Type 0
 openedInside s r = openedFacts s r (r .answer)

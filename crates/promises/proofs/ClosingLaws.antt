@@ -16,7 +16,8 @@ use Rattle.wire.specs.Signed.{written, figureAt}
 use Rattle.wire.proofs.SignedLaws.{written-figure}
 use Rattle.report.specs.Report.{eight, eights, reported}
 use Rattle.reckoner.specs.declared.Ledger.{Ledger}
-use Rattle.reckoner.specs.Ledger.{noFigures, report}
+use Rattle.figures.specs.Figures.{noFigures}
+use Rattle.reckoner.specs.Ledger.{report}
 use Rattle.reckoner.specs.Calls.{closedBuffer}
 use Rattle.reckoner.proofs.Invariant.{LedgerKept}
 

@@ -20,6 +20,7 @@ use Rattle.classes.specs.Matrix.{entry, RowsSum, optionOneMatrix}
 use Rattle.classes.proofs.MatrixLaws.{option-one-rows}
 use Rattle.projection.specs.Projection.{RowsWithin}
 use Rattle.figures.specs.declared.Figures.{Figures}
+use Rattle.figures.specs.Figures.{noFigures}
 use Rattle.figures.specs.Year.{Year}
 use Rattle.figures.specs.Reckoning.{yearFigures}
 use Rattle.figures.proofs.FiguresLaws.{FiguresSmall}
@@ -31,7 +32,7 @@ use Rattle.dossier.proofs.WellFormed.{opening-accepted, year-accepted}
 use Rattle.opening.specs.Answers.{matrixInUse}
 use Rattle.reckoning.specs.Step.{yearAdvanced, afterFigures, SmallState}
 use Rattle.reckoner.specs.declared.Ledger.{Ledger}
-use Rattle.reckoner.specs.Ledger.{openedWith, noFigures, emptyLedger, openedLedger, termsOf, dueOf, givenYear, Closable}
+use Rattle.reckoner.specs.Ledger.{openedWith, emptyLedger, openedLedger, termsOf, dueOf, givenYear, Closable}
 use Rattle.reckoner.specs.Calls.{openJudged, openCall, yearJudged, yearCall, HandedBack, opened, given}
 use Rattle.reckoner.proofs.YearRanges.{figures-range}
 use Rattle.reckoner.proofs.RegionKept.{RegionKept, zero-region, opened-region, projected-kept}

@@ -106,7 +106,7 @@ module _ (s : List ℕ) (from : ℕ) (l : Ledger) (at : ℕ) (m : Ledger) (f : S
         let j = years-refused (m .state .left) (dueOf m) (f .given) (drop at s) n some-left (none-given m stocks factors counted es ef same-counted s at r same-says n e) in
         rw (f .goesOn, j) (refl, refl)
 
-    pub one-more : Bytes s → stepInside s r → (next : ℕ) → r .answer ≡ StepAnswer.Next next → SoFar s from l next (withAdvanced m (r .advanced))
+    pub one-more : Bytes s → stepInside s (m .state) r → (next : ℕ) → r .answer ≡ StepAnswer.Next next → SoFar s from l next (withAdvanced m (r .advanced))
     one-more b i next e =
         let g = one-given m stocks factors counted es ef same-counted s at r same-says next e in
         go (g .value) (r .advanced) (g .made) (g .judged)
@@ -119,6 +119,6 @@ module _ (s : List ℕ) (from : ℕ) (l : Ledger) (at : ℕ) (m : Ledger) (f : S
           option = f .option;
           matrix = f .matrix;
           counted = unfold yearAdvanced afterFigures in omega (arith, f .counted, some-left);
-          inside = next-inside s r next e i;
+          inside = next-inside s (m .state) r next e i;
           goesOn = f .goesOn ∙ years-more (m .state .left) (dueOf m) (f .given) (drop at s) y (drop next s) some-left j ∙ unfold givenYear yearAdvanced afterFigures in rw (← due-more y m);
         })

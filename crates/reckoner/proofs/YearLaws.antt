@@ -20,6 +20,7 @@ use Rattle.dossier.specs.Reader.{Judged, refused, accepted, after, _>>=_, _>>_,
 use Rattle.dossier.specs.Judging.{noneLeft, yearDue, year, yearPiece}
 use Rattle.dossier.proofs.YearLaws.{none-left-only}
 use Rattle.cursor.proofs.AtLaws.{bind-no, bind-yes, end-lone, end-beyond, end-here}
+use Rattle.reckoning.specs.declared.State.{State}
 use Rattle.reckoning.specs.declared.StepAnswer.{StepAnswer}
 use Rattle.reckoning.specs.declared.Stepped.{Stepped}
 use Rattle.reckoning.specs.Step.{yearAdvanced, steppedYear, stepSays, stepInside}
@@ -127,5 +128,5 @@ module _ (l : Ledger) (stocks factors counted : List ℕ) (es : stocks ≡ carbo
 pub year-handed : (l : Ledger) (s : List ℕ) (m : Ledger) (a : Answer) → HandedBack l → Bytes s → record { ledger = m; answer = a } ≡ yearCall l s → HandedBack m
 year-handed l s m a h b e = rw (← ap (λ (x : Step). x .ledger) e) at (given h s b)
 
-pub next-inside : (s : List ℕ) (r : Stepped) (next : ℕ) → r .answer ≡ StepAnswer.Next next → stepInside s r → next ≤ length s
-next-inside s r next e i = rw e at i
+pub next-inside : (s : List ℕ) (state : State) (r : Stepped) (next : ℕ) → r .answer ≡ StepAnswer.Next next → stepInside s state r → next ≤ length s
+next-inside s state r next e i = rw e at i

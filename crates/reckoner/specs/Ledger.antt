@@ -9,7 +9,7 @@ use Rattle.wire.specs.Bytes.{total}
 use Rattle.classes.specs.declared.AreaUnits.{AreaUnits}
 use Rattle.classes.specs.Classes.{carbonStocks}
 use Rattle.projection.specs.Projection.{openedRegion}
-use Rattle.figures.specs.declared.Figures.{Figures}
+use Rattle.figures.specs.Figures.{noFigures}
 use Rattle.figures.specs.Year.{Terms, Year}
 use Rattle.dossier.specs.Records.{Opening, OpeningInRange, Due, Dossier}
 use Rattle.opening.specs.Answers.{matrixInUse}
@@ -21,18 +21,6 @@ use Rattle.reckoner.specs.declared.Ledger.{Ledger}
 -- areas of area units
 abbrev pub units : List ℕ → List AreaUnits
 units xs = map (λ (n : ℕ). record { 0 = n }) xs
-
-abbrev pub noFigures : Figures
-noFigures = record {
-  reference = record { 0 = pos 0 };
-  project = record { 0 = pos 0 };
-  activity = record { 0 = pos 0 };
-  belt = record { 0 = pos 0 };
-  «belt_reference» = record { 0 = pos 0 };
-  displaced = record { 0 = pos 0 };
-  reduction = record { 0 = pos 0 };
-  credited = record { 0 = pos 0 };
-}
 
 -- a ledger with no year given: n left from the first on, both regions at inception, nothing credited
 unfoldable pub openedWith : (option first years : ℕ) (start beltstart : AreaUnits) (project belt : List AreaUnits) (matrix : List ℕ) → Ledger

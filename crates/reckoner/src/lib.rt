@@ -11,7 +11,7 @@ ghost use mathlib.Core.Path.{_≡_};
 ghost use Prim.Native.Nat.{_≤_, _<_};
 ghost use lib.ListN.{length, drop};
 ghost use Rattle.dossier.specs.Judging.{end, bufferNumber, callNumber};
-ghost use Rattle.reckoner.specs.Ledger.{noFigures, emptyLedger, openedWith, withAdvanced, givenYears, NewlyOpened, Closable};
+ghost use Rattle.reckoner.specs.Ledger.{emptyLedger, openedWith, withAdvanced, givenYears, NewlyOpened, Closable};
 ghost use Rattle.reckoner.specs.Calls.{openCall, yearCall, closeCall, closedBuffer, HandedBack, reckonBuffer, endSays, yearsToCome, thenNumber, thenBuffer};
 
 const YR: u64 = 0x5952;
@@ -40,21 +40,6 @@ pub struct Step {
     pub answer: Answer,
 }
 
-fn no_figures() -> Figures
-    ensures { λ r. ⌜ r ≡ noFigures ⌝ }
-{
-    Figures {
-        reference: Grams(0),
-        project: Grams(0),
-        activity: Grams(0),
-        belt: Grams(0),
-        belt_reference: Grams(0),
-        displaced: Grams(0),
-        reduction: Grams(0),
-        credited: Grams(0),
-    }
-}
-
 // A region at inception.
 fn region(areas: [AreaUnits; 12]) -> Region
     ensures { λ r. ⌜ r ≡ record { areas = areas; balance = record { 0 = 0 } } ⌝ }
@@ -80,7 +65,7 @@ fn new_ledger(
 {
     let at_inception = region(project);
     let belt_at_inception = region(belt);
-    let none = no_figures();
+    let none = figures::no_figures();
     Ledger {
         option,
         given: 0,

@@ -1,6 +1,7 @@
 -- One year's reckoning: what it does to the state that years change, and the figures it makes.
 -- Assumes nothing.
 use Prim.Native.Nat.{ℕ, _+_, _-_, _^_, _≤_, _<_}
+use mathlib.Core.Path.{_≡_}
 use mathlib.Core.List.{List}
 use lib.IntN.{pos, _+ℤ_}
 use lib.Signed.{mag}
@@ -10,7 +11,7 @@ use Rattle.projection.specs.declared.Region.{Region}
 use Rattle.projection.specs.Projection.{projectedCarbon, projectedRegion, SmallRegion}
 use Rattle.figures.specs.declared.Figures.{Figures}
 use Rattle.figures.specs.Year.{Terms, Year}
-use Rattle.figures.specs.Figures.{referenceLevel, stockChangeEmissions, figuresOf}
+use Rattle.figures.specs.Figures.{referenceLevel, stockChangeEmissions, noFigures, figuresOf}
 use Rattle.figures.specs.Reckoning.{yearFigures}
 use Rattle.dossier.specs.Records.{Due}
 use Rattle.dossier.specs.Reader.{Judged, refused, accepted, Reader, _>>=_, give}
@@ -56,7 +57,7 @@ steppedYear factor counted matrix due state = do
 unfoldable pub dueOf : State → ℕ → ℕ → Due
 dueOf state project belt = record { nextYear = state .year; left = state .left; projectTotal = project; beltTotal = belt }
 
--- ---- what a step answers; a refusal leaves the state as it was
+-- ---- what a step answers
 abbrev pub stepJudged : List ℕ → Stepped → StepAnswer → Judged Advanced
 stepJudged s r (StepAnswer.Next next) = accepted (r .advanced) (drop next s)
 stepJudged s r (StepAnswer.Refused n) = refused n
@@ -64,12 +65,13 @@ stepJudged s r (StepAnswer.Refused n) = refused n
 abbrev pub stepSays : List ℕ → Stepped → Judged Advanced
 stepSays s r = stepJudged s r (r .answer)
 
-abbrev pub stepFacts : List ℕ → StepAnswer → Type 0
-stepFacts s (StepAnswer.Next next) = next ≤ length s
-stepFacts s (StepAnswer.Refused n) = Unit {0}
+-- read: the next record begins inside; refused: the state as it was, and no figures
+abbrev pub stepFacts : List ℕ → State → Advanced → StepAnswer → Type 0
+stepFacts s state advanced (StepAnswer.Next next) = next ≤ length s
+stepFacts s state advanced (StepAnswer.Refused n) = advanced ≡ record { state = state; figures = noFigures }
 
-abbrev pub stepInside : List ℕ → Stepped → Type 0
-stepInside s r = stepFacts s (r .answer)
+abbrev pub stepInside : List ℕ → State → Stepped → Type 0
+stepInside s state r = stepFacts s state (r .advanced) (r .answer)
 
 -- ranges in which every sum fits 64 bits
 pub record SmallState (state : State) : Type 0 where

@@ -35,7 +35,7 @@ pub enum StepAnswer {
     Refused(u8),
 }
 
-// A step's answer. Where it is a refusal, what stands beside it has no meaning.
+// A step's answer; where it is a refusal, the state as it was and no figures stand beside it.
 pub struct Stepped {
     pub answer: StepAnswer,
     pub advanced: Advanced,
@@ -90,19 +90,6 @@ fn advance(
     }
 }
 
-fn no_figures() -> Figures {
-    Figures {
-        reference: Grams(0),
-        project: Grams(0),
-        activity: Grams(0),
-        belt: Grams(0),
-        belt_reference: Grams(0),
-        displaced: Grams(0),
-        reduction: Grams(0),
-        credited: Grams(0),
-    }
-}
-
 // The year that is due, from at: start and belt are the starting areas, factors and counted the emission factors of projected and of monitored conversions.
 pub fn step(
     s: &[u8],
@@ -120,14 +107,14 @@ pub fn step(
     requires { ⌜ FactorsFit (now factors) ⌝ }
     requires { ⌜ FactorsFit (now counted) ⌝ }
     ensures { λ r. ⌜ stepSays (now (s .entry)) r ≡ steppedYear (entry (now (factors .entry))) (entry (now (counted .entry))) (now (matrix .entry)) (dueOf state (start .0) (belt .0)) state (drop at (now (s .entry))) ⌝ }
-    ensures { λ r. ⌜ stepInside (now (s .entry)) r ⌝ }
+    ensures { λ r. ⌜ stepInside (now (s .entry)) state r ⌝ }
 {
     match years::read_year(s, at, state.year, state.left, start, belt, counted) {
         YearAnswer::Refused(n) => Stepped {
             answer: StepAnswer::Refused(n),
             advanced: Advanced {
                 state,
-                figures: no_figures(),
+                figures: figures::no_figures(),
             },
         },
         YearAnswer::Read {

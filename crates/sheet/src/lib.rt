@@ -150,6 +150,6 @@ pub fn write_call(word: &[u8], n: u64, k: u64, result: &[u8], out: &mut [u8]) ->
     let after_word = put_text(out, 0, word);
     let after_space = put_byte(out, after_word, b' ');
     let after_number = put_decimal(out, after_space, n);
-    let after_figures = put_spaced(out, after_number, k, result, 0);
-    put_byte(out, after_figures, b'\n')
+    let end = put_spaced(out, after_number, k, result, 0);
+    put_byte(out, end, b'\n')
 }

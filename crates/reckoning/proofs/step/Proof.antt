@@ -31,7 +31,7 @@ advance-requires c κs = let pre = c .before .before .before .before .before .pr
 
 returns : tie.Need-returns
 unfolding dueOf
-returns c = (stepped-no (entry (c .before .before .before .before .before .before .args .factors .now)) (entry (c .before .before .before .before .before .before .args .counted .now)) (c .before .before .before .before .before .before .args .matrix .now) _ (c .before .before .before .before .before .before .args .state) (drop (c .before .before .before .before .before .before .args .at) (c .before .before .before .before .before .before .args .s .now)) _ (year-refused _ _ _ _ (c .before .before .n .given .1) (c .before .before .before .before .read-year .ensures .0)), tt)
+returns c = (stepped-no (entry (c .before .before .before .before .before .before .args .factors .now)) (entry (c .before .before .before .before .before .before .args .counted .now)) (c .before .before .before .before .before .before .args .matrix .now) _ (c .before .before .before .before .before .before .args .state) (drop (c .before .before .before .before .before .before .args .at) (c .before .before .before .before .before .before .args .s .now)) _ (year-refused _ _ _ _ (c .before .before .n .given .1) (c .before .before .before .before .read-year .ensures .0)), rw (c .no-figures .ensures))
 
 returns-2 : tie.Need-returns-2
 unfolding dueOf

@@ -29,7 +29,7 @@ enum-known-answer-2 : tie.Need-enum-known-answer-2
 enum-known-answer-2 c = search needs
 
 sub-beyond : tie.Need-sub-beyond
-sub-beyond c = next-inside (c .before .before .before .before .before .before .before .before .before .before .before .before .before .before .before .before .before .before .args .piece .now) (c .before .before .before .before .step .result) _ (c .before .answer2 .given .1) (c .before .before .before .before .step .ensures .1)
+sub-beyond c = next-inside (c .before .before .before .before .before .before .before .before .before .before .before .before .before .before .before .before .before .before .args .piece .now) _ (c .before .before .before .before .step .result) _ (c .before .answer2 .given .1) (c .before .before .before .before .step .ensures .1)
 
 returns : tie.Need-returns
 returns c = let e = year-lone (c .before .before .before .before .before .before .before .before .before .before .before .before .before .before .before .before .before .before .before .args .self) (c .before .before .before .before .before .before .before .before .before .before .before .before .before .carbon-stocks .result) (c .before .before .before .before .before .before .before .before .before .before .before .emission-factors .result) (c .before .before .before .before .before .before .before .before .before .counted-factors .result) (c .before .before .before .before .before .before .before .before .before .before .before .before .before .carbon-stocks .ensures) (c .before .before .before .before .before .before .before .before .before .before .before .emission-factors .ensures) (c .before .before .before .before .before .before .before .before .before .counted-factors .ensures) (c .before .before .before .before .before .before .before .before .before .before .before .before .before .before .before .before .before .before .before .args .piece .now) (c .before .before .before .before .before .step .result) (c .before .before .before .before .before .step .ensures .0) _ (c .before .before .answer2 .given .1) (c .if1 .taken) in (e, c .before .before .before .before .before .before .before .before .before .before .before .before .before .before .before .before .before .before .before .pre)
