@@ -1,4 +1,5 @@
 /* The proved reckoner against the tuned one in C on a dossier file: both in one interleaved run, medians of many rounds. */
+#define _POSIX_C_SOURCE 200809L
 #include "kh_am004.h"
 #include "plain.h"
 #include <stdio.h>

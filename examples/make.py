@@ -1,9 +1,9 @@
 #!/usr/bin/env python3
-"""Makes the example dossiers of this folder: python3 examples/make.py"""
+"""Makes the example dossiers, in this folder or in another: python3 examples/make.py [FOLDER]"""
 import pathlib
 import struct
+import sys
 
-HERE = pathlib.Path(__file__).resolve().parent
 CLASSES = "E SE P D B M MR FF FR TP PP NF".split()
 
 
@@ -75,7 +75,8 @@ def refusals():
 
 
 if __name__ == "__main__":
-    (HERE / "case-a.dossier").write_bytes(case_a())
-    (HERE / "twenty-years.dossier").write_bytes(twenty_years())
+    folder = pathlib.Path(sys.argv[1]) if len(sys.argv) > 1 else pathlib.Path(__file__).parent
+    (folder / "case-a.dossier").write_bytes(case_a())
+    (folder / "twenty-years.dossier").write_bytes(twenty_years())
     for number, data in refusals().items():
-        (HERE / f"refused-{number}.dossier").write_bytes(data)
+        (folder / f"refused-{number}.dossier").write_bytes(data)

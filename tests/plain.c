@@ -1,13 +1,14 @@
 /* A plain reckoner in C by document 01's steps. It is not proved: the tests compare with it, in bytes and in time.
- * Compiled with TUNED it is the benchmark's yardstick: byte-swapped loads, and 64-bit products where they fit. */
+ * Compiled with TUNED it is the benchmark's yardstick: byte-swapped loads, 64-bit products where they fit, and the
+ * conversions weighed as they are read, without a branch. */
 #include "plain.h"
 #include <string.h>
 
-typedef unsigned __int128 wide;
+__extension__ typedef unsigned __int128 wide;
 #ifdef TUNED
 typedef uint64_t product; /* the areas add up to 10^12 at most, a factor is below 2^14, a probability at most 10^6 */
 #else
-typedef unsigned __int128 product;
+typedef wide product;
 #endif
 
 static const unsigned stock[12] = { 9130, 13511, 5654, 4821, 0, 8415, 9240, 3986, 4265, 5654, 5654, 0 };
@@ -48,6 +49,7 @@ static int begin(struct input *in, const char *mark, size_t bytes)
 }
 
 static uint64_t up(wide x, uint64_t by) { return (uint64_t)((x + by - 1) / by); }
+static uint64_t product_up(product x, uint64_t by) { return (uint64_t)((x + by - 1) / by); }
 
 /* a table of 64-bit numbers, and their sum */
 static int table(struct input *in, const char *mark, uint64_t *cell, int count, wide *sum)
@@ -94,7 +96,7 @@ static int activity(struct input *in, int before, uint64_t *grams)
         g = field(in, 8);
     if (kind < 1 || kind > 3 || g > 1000000000000)
         return -8;
-    *grams += m == 3 ? up((wide)g * lime[kind - 1], 300) : up((wide)g * fuel[kind - 1], 100000);
+    *grams += m == 3 ? product_up((product)g * lime[kind - 1], 300) : product_up((product)g * fuel[kind - 1], 100000);
     return 0;
 }
 
@@ -122,22 +124,45 @@ static wide project(uint64_t *area, uint64_t *balance, unsigned matrix[12][12], 
     return carbon;
 }
 
-static uint64_t monitored(const uint64_t *cell, unsigned factors[12][12], int option)
+/* a table of conversions: their emissions; counted has the factors that count */
+static int monitored(struct input *in, const char *mark, wide start, unsigned counted[144], uint64_t *emitted)
 {
     product carbon = 0;
-    for (int i = 0; i < 12; i++)
-        for (int j = option == 1 ? 11 : 0; j < 12; j++)
-            carbon += (product)cell[12 * i + j] * factors[i][j];
-    return up((wide)carbon * 11, 300);
+#ifdef TUNED
+    int fault = begin(in, mark, 8 * 144);
+    uint64_t sum = 0, any = 0;
+    if (fault)
+        return fault;
+    for (int k = 0; k < 144; k++) {
+        uint64_t cell = field(in, 8);
+        any |= cell;
+        sum += cell;
+        carbon += cell * counted[k];
+    }
+    if (any >> 40 || sum != start) /* 10^12 is below 2^40, so that no sum of sound cells wraps */
+        return 7;
+#else
+    uint64_t cell[144];
+    wide sum;
+    int fault = table(in, mark, cell, 144, &sum);
+    if (fault)
+        return fault;
+    if (sum != start)
+        return 7;
+    for (int k = 0; k < 144; k++)
+        carbon += (product)cell[k] * counted[k];
+#endif
+    *emitted = product_up(carbon * 11, 300);
+    return 0;
 }
 
 uint32_t plain_reckon(const uint8_t *dossier, size_t dossier_len, uint8_t *result, size_t result_len)
 {
     struct input in = { dossier, dossier_len, 0 };
-    uint64_t area[2][12], cell[2][144], balance[2] = { 0, 0 };
-    unsigned matrix[12][12] = { { 0 } }, factors[12][12];
+    uint64_t area[2][12], balance[2] = { 0, 0 };
+    unsigned matrix[12][12] = { { 0 } }, factors[12][12], counted[144];
     int64_t out[8 * 20 + 4], total = 0;
-    wide start[2], sum;
+    wide start[2];
     int fault;
 
     if ((fault = begin(&in, "HD", 4)))
@@ -157,6 +182,7 @@ uint32_t plain_reckon(const uint8_t *dossier, size_t dossier_len, uint8_t *resul
         uint64_t row = 0;
         for (int j = 0; j < 12; j++) {
             factors[i][j] = factor(i, j);
+            counted[12 * i + j] = option == 2 || j == 11 ? factors[i][j] : 0;
             if (option == 2)
                 row += matrix[i][j] = (unsigned)field(&in, 4);
         }
@@ -174,13 +200,10 @@ uint32_t plain_reckon(const uint8_t *dossier, size_t dossier_len, uint8_t *resul
         int days = year % 4 == 0 && (year % 100 != 0 || year % 400 == 0) ? 366 : 365;
         if (year != first + y || d < 1 || d > days)
             return 6;
-        for (int r = 0; r < 2; r++) {
-            if ((fault = table(&in, r ? "CD" : "CP", cell[r], 144, &sum)))
+        uint64_t emitted[2], grams = 0;
+        for (int r = 0; r < 2; r++)
+            if ((fault = monitored(&in, r ? "CD" : "CP", start[r], counted, &emitted[r])))
                 return (uint32_t)fault;
-            if (sum != start[r])
-                return 7;
-        }
-        uint64_t grams = 0;
         for (int k = 0; (fault = activity(&in, k, &grams)) == 0; k++)
             ;
         if (fault < 0)
@@ -188,7 +211,7 @@ uint32_t plain_reckon(const uint8_t *dossier, size_t dossier_len, uint8_t *resul
         int64_t *f = out + 8 * y;
         for (int r = 0; r < 2; r++) {
             f[r ? 4 : 0] = (int64_t)(project(area[r], &balance[r], matrix, factors) * 11 * (unsigned)d / (300 * (unsigned)days));
-            f[r ? 3 : 1] = (int64_t)monitored(cell[r], factors, option);
+            f[r ? 3 : 1] = (int64_t)emitted[r];
         }
         f[2] = (int64_t)grams;
         f[5] = f[3] > f[4] ? f[3] - f[4] : 0;

@@ -1,4 +1,5 @@
-/* A host: reckons the dossier file it is given and prints its figures as CSV for a spreadsheet. */
+/* A host: reckons the dossier file it is given and prints its figures as CSV for a spreadsheet. It ends with 1 where the
+ * dossier is refused, with 2 where there is none to read or the figures can't be written. */
 #include "kh_am004.h"
 #include <stdio.h>
 
@@ -10,42 +11,58 @@ static int64_t number(const uint8_t *report, size_t offset)
     return (int64_t)bits;
 }
 
-static void print_year(int year, const uint8_t *report, size_t offset)
+static void print_year(int year, const uint8_t *figures)
 {
     printf("%d", year);
-    for (size_t k = 0; k < 8; k++)
-        printf(",%lld", (long long)number(report, offset + 8 * k));
+    for (size_t offset = KH_AM004_REFERENCE; offset <= KH_AM004_CREDITED; offset += 8)
+        printf(",%lld", (long long)number(figures, offset));
     printf("\n");
 }
 
-static void print_closing(const uint8_t *report, size_t years)
+static void print_report(int first, size_t years, const uint8_t *report)
 {
+    printf("year,reference,project,activity,belt,belt reference,displaced,reduction,credited\n");
+    for (size_t y = 0; y < years; y++)
+        print_year(first + (int)y, report + KH_AM004_YEAR(y));
     printf("total,%lld\n", (long long)number(report, KH_AM004_TOTAL(years)));
     printf("tonnes,%lld\n", (long long)number(report, KH_AM004_TONNES(years)));
     printf("balance,%lld\n", (long long)number(report, KH_AM004_BALANCE(years)));
     printf("belt balance,%lld\n", (long long)number(report, KH_AM004_BELT_BALANCE(years)));
 }
 
+/* The first 65,536 bytes of a file, which settle the answer for all of it; -1 where it can't be read. */
+static long read_file(const char *path, uint8_t *bytes)
+{
+    FILE *file = fopen(path, "rb");
+    if (!file)
+        return -1;
+    size_t length = fread(bytes, 1, 65536, file);
+    int failed = ferror(file);
+    fclose(file);
+    return failed ? -1 : (long)length;
+}
+
 int main(int argc, char **argv)
 {
-    static uint8_t dossier[1 << 16], report[KH_AM004_REPORT(20)];
-    FILE *file = argc == 2 ? fopen(argv[1], "rb") : NULL;
-    if (!file) {
+    static uint8_t dossier[65536], report[KH_AM004_REPORT(20)];
+    if (argc != 2) {
         fprintf(stderr, "usage: host DOSSIER\n");
         return 2;
     }
-    size_t length = fread(dossier, 1, sizeof dossier, file);
-    fclose(file);
-    uint32_t refusal = kh_am004_reckon(dossier, length, report, sizeof report);
-    if (refusal != KH_AM004_ACCEPTED) {
-        fprintf(stderr, "refused %u\n", refusal);
+    long length = read_file(argv[1], dossier);
+    if (length < 0) {
+        perror(argv[1]);
+        return 2;
+    }
+    uint32_t answer = kh_am004_reckon(dossier, (size_t)length, report, sizeof report);
+    if (answer != KH_AM004_ACCEPTED) {
+        fprintf(stderr, "refused %u\n", (unsigned)answer);
         return 1;
     }
-    int first = dossier[3] << 8 | dossier[4];
-    size_t years = dossier[5];
-    printf("year,reference,project,activity,belt,belt reference,displaced,reduction,credited\n");
-    for (size_t y = 0; y < years; y++)
-        print_year(first + (int)y, report, KH_AM004_YEAR_FIGURES(y));
-    print_closing(report, years);
+    print_report(dossier[3] << 8 | dossier[4], dossier[5], report);
+    if (fflush(stdout)) {
+        perror("standard output");
+        return 2;
+    }
     return 0;
 }

@@ -1,5 +1,5 @@
-/* Fuzzes the call for C: a refusal leaves the buffer as it was, bytes beyond the report keep their content, and number and
- * report are the plain reckoner's. */
+/* Fuzzes the call for C: a refusal leaves the buffer as it was, bytes beyond the report and beyond the buffer keep their
+ * content, and number and report are the plain reckoner's. */
 #include "kh_am004.h"
 #include "plain.h"
 #include <stdlib.h>
@@ -13,12 +13,12 @@ int LLVMFuzzerTestOneInput(const uint8_t *data, size_t size)
     uint8_t *result = malloc(room + 1), *plain = malloc(room + 1), *old = malloc(room + 1);
     if (!result || !plain || !old)
         abort();
-    for (size_t k = 0; k < room; k++)
+    for (size_t k = 0; k <= room; k++)
         result[k] = plain[k] = old[k] = (uint8_t)(k * 167 + size);
     uint32_t number = kh_am004_reckon(data, size, result, room);
     if (number > KH_AM004_BUFFER || number != plain_reckon(data, size, plain, room))
         abort();
-    if (memcmp(result, plain, room) || (number != 0 && memcmp(result, old, room)))
+    if (memcmp(result, plain, room + 1) || result[room] != old[room] || (number != 0 && memcmp(result, old, room)))
         abort();
     free(result);
     free(plain);

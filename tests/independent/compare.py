@@ -152,7 +152,7 @@ class Comparison:
 
 
 def main():
-    if len(sys.argv) < 4:
+    if not 4 <= len(sys.argv) <= 6 or not all(number.isdigit() for number in sys.argv[4:]):
         sys.exit(__doc__)
     library, yearsheet, ledgertrace, *given = sys.argv[1:]
     seed, rounds = map(int, given + ["4", "30"][len(given):])

@@ -1,7 +1,8 @@
 #!/usr/bin/env python3
 """A reckoner written from document 01 alone, with whole numbers and fractions: what the proved one is compared with.
 
-    python3 tests/independent/reckoner.py < DOSSIER      prints the sheet, and checks demand 3 of it
+    python3 tests/independent/reckoner.py < DOSSIER            prints the sheet, and checks demand 3 of it
+    python3 tests/independent/reckoner.py --gap < DOSSIER      prints the total, the unrounded one, five times the gap and its bound
 """
 import sys
 from fractions import Fraction
@@ -25,6 +26,11 @@ class Refused(Exception):
 def require(holds, number):
     if not holds:
         raise Refused(number)
+
+
+def demand(holds, what):
+    if not holds:
+        raise AssertionError("demand 3 fails: " + what)
 
 
 class Cursor:
@@ -173,13 +179,19 @@ class Ledger:
         self.records += len(records)
         self.check()
 
+    def bound(self):
+        """What five times the gap stays below."""
+        y = len(self.years)
+        return 261576 * y * (y + 1) + 21 * y + 4 * self.records
+
     def check(self):
         """Demand 3, as far as it stands after the years so far."""
-        y, gap = len(self.years), self.exact - self.total
-        assert 0 <= gap and 5 * gap < 261576 * y * (y + 1) + 21 * y + 4 * self.records
+        demand(self.total <= self.exact, "no more than the unrounded total is reported")
+        demand(5 * (self.exact - self.total) < self.bound(), "the gap stays below its bound")
         for region in (self.project, self.belt):
-            assert sum(region.areas.values()) + region.balance == region.start and region.balance <= 132 * y
-            assert all(region.areas[c] <= region.exact[c] for c in CLASSES)
+            demand(sum(region.areas.values()) + region.balance == region.start, "areas and balance make up the starting area")
+            demand(region.balance <= 132 * len(self.years), "the balance is at most 132 a year")
+            demand(all(region.areas[c] <= region.exact[c] for c in CLASSES), "no area exceeds its unrounded one")
 
     def open(self, piece):
         try:
@@ -242,5 +254,14 @@ def sheet(dossier):
     return "".join(line + "\n" for line in lines)
 
 
+def gap(dossier):
+    number, ledger = reckon(dossier, bytearray(1312))
+    if number:
+        return f"refused {number}\n"
+    return f"total {ledger.total} unrounded {ledger.exact} five times the gap {5 * (ledger.exact - ledger.total)} bound {ledger.bound()}\n"
+
+
 if __name__ == "__main__":
-    sys.stdout.write(sheet(sys.stdin.buffer.read()))
+    if sys.argv[1:] not in ([], ["--gap"]):
+        sys.exit(__doc__)
+    sys.stdout.write((gap if sys.argv[1:] else sheet)(sys.stdin.buffer.read()))

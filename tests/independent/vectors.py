@@ -499,6 +499,8 @@ def call_files():
 
 
 def main():
+    if sys.argv[1:] not in ([], ["--check"]):
+        sys.exit(__doc__)
     for name, contents in (("vectors", vector_files()), ("ledgertrace", call_files())):
         for stream, content in zip(("stdin", "stdout"), contents):
             path = ROOT / "crates" / name / stream

@@ -16,7 +16,7 @@ const NI: u64 = 0x4e49;
 
 const LI: u64 = 0x4c49;
 
-pub enum ActivityAnswer {
+enum ActivityAnswer {
     Read { activity: Activity, next: usize },
     Refused(u8),
 }

@@ -14,8 +14,15 @@ pub struct AreaUnits(pub u64);
 // Carbon, in units of 10^-8 tC.
 pub struct CarbonUnits(pub u64);
 
-// CO2 (of fertilizer and fires CO2-equivalent), in grams.
+// CO2 (of fertilizer CO2-equivalent), in grams.
 pub struct Grams(pub i64);
+
+// Tree plantation, pine plantation and non-forest: their places among the twelve classes.
+const TP: usize = 9;
+
+const PP: usize = 10;
+
+const NF: usize = 11;
 
 // Carbon stock by class, hundredths of tC per ha (document 001, table 1).
 const CARBON_STOCKS: [u64; 12] = [
@@ -86,10 +93,10 @@ fn emission_factor(stocks: &[u64; 12], i: usize, j: usize) -> u64
     requires { ⌜ j < 12 ⌝ }
     ensures { λ r. ⌜ r ≡ emissionFactor (now (stocks .entry)) i j ⌝ }
 {
-    if j == 9 {
+    if j == TP {
         return 0;
     }
-    if j == 10 {
+    if j == PP {
         return 0;
     }
     let from = stocks[i];
@@ -119,7 +126,7 @@ pub fn option_one_matrix() -> [u64; 144]
     let mut i: usize = 0;
     while i < 12 {
         let p = probabilities[i];
-        matrix[12 * i + 11] = p;
+        matrix[12 * i + NF] = p;
         matrix[12 * i + i] = 1000000 - p;
         i += 1;
     }

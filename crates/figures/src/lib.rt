@@ -12,6 +12,9 @@ ghost use Rattle.classes.specs.Matrix.{entry, tableOf};
 ghost use Rattle.figures.specs.Figures.{referenceLevel, countedFactor, stockChangeEmissions, displacedEmissions, creditedOf, tonnesOf, noFigures, figuresOf};
 ghost use Rattle.figures.specs.Ranges.{SmallCarbon, SmallYear, SmallGrams};
 
+// The place of class NF.
+const NON_FOREST: usize = 11;
+
 // The eight figures of a year, in the order in which they are reported.
 pub struct Figures {
     pub reference: Grams,
@@ -64,7 +67,7 @@ fn counted_factor(option: u64, factor: u64, j: usize) -> u64
     ensures { λ r. ⌜ r ≡ cond (eqb option 1) (cond (eqb j NF) factor 0) factor ⌝ }
 {
     if option == 1 {
-        if j == 11 { factor } else { 0 }
+        if j == NON_FOREST { factor } else { 0 }
     } else {
         factor
     }

@@ -66,7 +66,7 @@ fn flows_into(areas: [AreaUnits; 12], matrix: &[u64; 144], factors: &[u64; 144],
 }
 
 // The total of twelve areas.
-pub fn area_total(areas: [AreaUnits; 12]) -> AreaUnits
+fn area_total(areas: [AreaUnits; 12]) -> AreaUnits
     requires { ⌜ areaTotal areas ≤ 1000000000000 ⌝ }
     ensures { λ r. ⌜ r .0 ≡ areaTotal areas ⌝ }
 {

@@ -15,7 +15,7 @@ const CP: u64 = 0x4350;
 
 const CD: u64 = 0x4344;
 
-pub enum TableAnswer {
+enum TableAnswer {
     Read { carbon: CarbonUnits, next: usize },
     Refused(u8),
 }
