@@ -1,7 +1,9 @@
 // Makes the calls that standard input lists on one ledger, and prints a line for each: for testers.
 //
-// A call is `O` or `Y`, a 32-bit length up to 65,536 and that many bytes; or `C` and the 32-bit length of a buffer, up to
-// 65,536. Before any `O` the ledger is the empty one. The list ends where a call is cut or is none of these.
+// A call is `O` (open) or `Y` (year), a big-endian 32-bit length up to 65,536 and that many bytes; or `C` (close) and the
+// big-endian 32-bit length of a buffer, up to 65,536. Before any `O` the ledger is the empty one. The list ends where a call
+// is cut or is none of these. A line is `open N`, `year N` or `close N`, N the call's number; after an accepted closing of k
+// years the 8 × k + 4 numbers that it wrote follow, each after a space.
 use reckoner::Answer;
 use reckoner::Ledger;
 ghost use Prim.Native.Nat.{_<_};

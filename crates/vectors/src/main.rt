@@ -1,12 +1,13 @@
 // Reckons the dossiers of a list on standard input and prints a line for each: what the stored vectors are tried with.
 //
-// A vector is a label of up to 100 bytes and a dossier of up to 65,536, each after its 32-bit length, and the 32-bit
-// length of a buffer, up to 1,312. The list ends where a vector is cut or longer.
+// A vector is a label of up to 100 bytes and a dossier of up to 65,536, each after its big-endian 32-bit length, and such a
+// length of a buffer, up to 1,312. The list ends where a vector is cut or longer. A line is the label and the number; of an
+// accepted dossier every whole 64-bit number of the buffer follows, those beyond the report too.
 use libc::STDOUT_FILENO;
 ghost use Prim.Native.Nat.{_≤_};
 ghost use lib.ListN.{length};
 
-// The label and the number; of an accepted dossier the buffer as figures, of a refused one what became of the buffer.
+// The line of a vector, and another one where a refusal changed the buffer, which is full of 165 before the call.
 fn print_vector(label: &[u8], dossier: &[u8], room: usize)
     requires { ⌜ (length (now label) ≤ 100) × (room ≤ 1312) ⌝ }
 {
