@@ -4,7 +4,7 @@ use mathlib.Core.Path.{_≡_, refl}
 use mathlib.Core.Bool.{Bool, true, false, not, cond}
 use Prim.Native.Nat.{ℕ, zero, suc, _+_, _*_, _-_, _≤_, _<_}
 use native.Mathlib.Omega.{arith}
-use lib.Dec.{T, ltb, leb→le, le→leb, ltb→lt, lt→ltb, nltb→le}
+use lib.Dec.{T, ltb, le→leb, ltb→lt, lt→ltb, nltb→le}
 use lib.IntN.{ℤ, pos, negsuc, subℕ, _+ℤ_, _-ℤ_, _*ℤ_, negℤ}
 use lib.Signed.{_≤ℤ_, _<ℤ_, mag}
 
@@ -17,23 +17,11 @@ below (pos n) = 0
 below (negsuc n) = suc n
 
 -- ---- the orders
-pub le-parts : (a b : ℤ) → a ≤ℤ b → above a + below b ≤ above b + below a
-le-parts (pos a) (pos b) h = let k : a ≤ b = leb→le a b (h .le) in omega arith
-le-parts (pos a) (negsuc b) h = absurd (h .le)
-le-parts (negsuc a) (pos b) h = omega arith
-le-parts (negsuc a) (negsuc b) h = let k : b ≤ a = leb→le b a (h .le) in omega arith
-
 pub parts-le : (a b : ℤ) → above a + below b ≤ above b + below a → a ≤ℤ b
 parts-le (pos a) (pos b) h = record { le = le→leb a b (omega arith) }
 parts-le (pos a) (negsuc b) h = let z : ⊥ = omega arith in absurd z
 parts-le (negsuc a) (pos b) h = record { le = tt }
 parts-le (negsuc a) (negsuc b) h = record { le = le→leb b a (omega arith) }
-
-pub lt-parts : (a b : ℤ) → a <ℤ b → above a + below b < above b + below a
-lt-parts (pos a) (pos b) h = let k : a < b = ltb→lt a b (h .lt) in omega arith
-lt-parts (pos a) (negsuc b) h = absurd (h .lt)
-lt-parts (negsuc a) (pos b) h = omega arith
-lt-parts (negsuc a) (negsuc b) h = let k : b < a = ltb→lt b a (h .lt) in omega arith
 
 pub parts-lt : (a b : ℤ) → above a + below b < above b + below a → a <ℤ b
 parts-lt (pos a) (pos b) h = record { lt = lt→ltb a b (omega arith) }

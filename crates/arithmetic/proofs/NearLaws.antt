@@ -1,11 +1,9 @@
 -- A fraction near a whole number: at most k below it and at most l above it, in five-hundredths.
 -- Assumes nothing.
-use mathlib.Core.Path.{_≡_, refl, sym, ap}
-use mathlib.Core.Bool.{Bool, true, false, not, cond}
-use Prim.Native.Nat.{ℕ, zero, suc, _+_, _*_, _-_, _≤_, _<_}
+use mathlib.Core.Path.{_≡_, sym, ap}
+use Prim.Native.Nat.{ℕ, _+_, _*_, _-_, _≤_, _<_}
 use native.Mathlib.Nat.{mul-le-mul-right, le-of-mul-le-mul-right, mul-lt-mul-of-pos-right}
 use native.Mathlib.Omega.{arith}
-use lib.Dec.{T, ltb, ltb→lt, nltb→le}
 use lib.IntN.{ℤ, pos, negsuc, _+ℤ_, _-ℤ_, negℤ}
 use Rattle.arithmetic.specs.Rounding.{positivePart}
 use Rattle.arithmetic.specs.Fraction.{Fraction, _≤ᶠ_, _<ᶠ_, whole, _+ᶠ_, _-ᶠ_, negᶠ, _×ᶠ_, ifPositive}
@@ -67,15 +65,6 @@ near-positive {z} {x} {k} {l} h = record { low = simp (positive-above, positive-
     go-high : (y : ℤ) → 500 * (below z * x .den) + 500 * above y ≤ 500 * below y + (500 * above z + l) * x .den → 500 * (0 * x .den) + 500 * above y ≤ 500 * 0 + (500 * above z + l) * x .den
     go-high (pos n) f = omega arith
     go-high (negsuc n) f = omega arith
-
--- a difference of naturals if positive, otherwise 0
-pub positive-difference : (a b : ℕ) → positivePart (pos a -ℤ pos b) ≡ pos (a - b)
-positive-difference a zero = ap pos (omega arith)
-positive-difference a (suc b) = go (ltb a (suc b)) (ltb→lt a (suc b)) (nltb→le a (suc b))
-  where
-    go : (t : Bool) → (T t → a < suc b) → (T (not t) → suc b ≤ a) → positivePart (cond t (negsuc (suc b - suc a)) (pos (a - suc b))) ≡ pos (a - suc b)
-    go true f g = let h : a < suc b = f tt in ap pos (omega arith)
-    go false f g = refl
 
 -- ---- from nearness to the orders of fractions
 pub near-≤ᶠ : {z : ℤ} {x : Fraction} {l : ℕ} → Near z x 0 l → whole z ≤ᶠ x

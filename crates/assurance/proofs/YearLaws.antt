@@ -3,7 +3,7 @@
 use mathlib.Core.Path.{_≡_, refl}
 use mathlib.Core.List.{List, [], _∷_}
 use Prim.Native.Nat.{ℕ, suc, _+_, _*_, _/_, _≤_, _<_}
-use native.Mathlib.Nat.{add-zero, add-suc, suc-add, add-assoc, mul-assoc, zero-lt-suc, mul-le-mul-right, mul-le-mul-left, mul-pos, div-mul-le-self, lt-div-mul-add}
+use native.Mathlib.Nat.{mul-assoc, zero-lt-suc, mul-le-mul-right, mul-le-mul-left, mul-pos, div-mul-le-self, lt-div-mul-add}
 use native.Mathlib.Omega.{arith}
 use lib.Dec.{lit<}
 use lib.ListN.{length}
@@ -26,8 +26,8 @@ use Rattle.activity.specs.Activity.{numerator, denominator, activityGrams, acti
 use Rattle.activity.proofs.ActivityLaws.{denominator-pos}
 use Rattle.figures.specs.Year.{Terms, Year}
 use Rattle.figures.specs.Figures.{referenceLevel, stockChangeEmissions, displacedEmissions, reductionOf, figuresOf}
-use Rattle.figures.specs.Reckoning.{regionReference, tableEmissions, yearFigures, Reckoning, opened, afterYear, afterYears, DaysAllowed, recordCount}
-use Rattle.assurance.specs.Unrounded.{Unrounded, openedᶠ, referenceᶠ, emissionsᶠ, activityᶠ, displacedᶠ, reductionᶠ, creditedᶠ, afterYearᶠ, afterYearsᶠ}
+use Rattle.figures.specs.Reckoning.{regionReference, tableEmissions, yearFigures, Reckoning, opened, afterYear}
+use Rattle.assurance.specs.Unrounded.{Unrounded, openedᶠ, referenceᶠ, emissionsᶠ, activityᶠ, displacedᶠ, reductionᶠ, creditedᶠ, afterYearᶠ}
 use Rattle.assurance.proofs.RegionLaws.{Follows, opened-follows, year-follows, carbon-over, carbon-ratio, carbon-low, carbon-high}
 use Rattle.assurance.proofs.CreditLaws.{creditGap, near-credited}
 
@@ -110,11 +110,3 @@ module _ (t : Terms) (G : ℕ) (factor-le : (i j : ℕ) → emissionFactor (t .s
       total = near-wider (omega arith) (omega arith) (near-sum (s .total) near-credit);
       none = λ h. let z : ⊥ = omega arith in absurd z;
     }
-
-  -- ---- the years one after the other
-  pub years-reckoned : (ys : List Year) → DaysAllowed ys → (n m projectStart beltStart : ℕ) (r : Reckoning) (u : Unrounded) → Reckoned G n m projectStart beltStart r u
-      → Reckoned G (n + length ys) (m + recordCount ys) projectStart beltStart (afterYears t ys r) (afterYearsᶠ t ys u)
-  unfolding afterYears afterYearsᶠ recordCount
-  years-reckoned [] h n m projectStart beltStart r u s = simp add-zero s
-  years-reckoned (y ∷ ys) h n m projectStart beltStart r u s =
-      simp (add-suc, ← add-assoc, ← suc-add) (years-reckoned ys (h .1) (suc n) (m + length (y .activities)) projectStart beltStart (afterYear t y r) (afterYearᶠ t y u) (year-reckoned n m projectStart beltStart r u s y (h .0)))

@@ -1,16 +1,16 @@
 -- For loops over bytes: one byte more of a number, one number more of a list, one row more of a matrix.
 -- Assumes nothing.
-use Prim.Native.Nat.{ℕ, zero, suc, _+_, _*_, _^_, _-_, _<_, _≤_}
-use mathlib.Core.Path.{_≡_, refl, _∙_, ap, sym}
+use Prim.Native.Nat.{ℕ, zero, suc, _+_, _*_, _-_, _<_, _≤_}
+use mathlib.Core.Path.{_≡_, refl, ap, sym}
 use mathlib.Core.Bool.{Bool, true, false, cond}
 use mathlib.Core.Logic.{_⊎_, inl, inr}
 use mathlib.Core.List.{List, [], _∷_, _++_}
-use native.Mathlib.Nat.{pow-suc, zero-add, add-zero, suc-add, add-assoc, zero-mul, mul-assoc, eq-or-lt-of-le, le-of-suc-le-suc}
+use native.Mathlib.Nat.{zero-add, add-zero, suc-add, add-assoc, zero-mul, eq-or-lt-of-le, le-of-suc-le-suc}
 use native.Mathlib.Omega.{arith}
 use borrow.Author.Tests.{ne-eqb}
 use lib.Dec.{eqb}
-use lib.ListN.{length, take, drop, getD, length-append, length-drop}
-use lib.Seq.{getD-drop, drop-drop, take-suc}
+use lib.ListN.{length, take, drop, getD}
+use lib.Seq.{drop-drop}
 use Rattle.arithmetic.specs.Sum.{sum}
 use Rattle.classes.specs.Classes.{classes}
 use Rattle.classes.specs.Matrix.{entry, million}
@@ -18,24 +18,6 @@ use Rattle.wire.specs.Bytes.{number, numbers, total}
 use Rattle.dossier.specs.Reader.{Judged, refused, accepted, after, _>>_, give, equal}
 use Rattle.dossier.specs.JudgingRecords.{rows}
 use Rattle.dossier.proofs.Refusals.{first-fault′}
-
--- ---- a number
-number-snoc : (l : List ℕ) (b : ℕ) → number (l ++ (b ∷ [])) ≡ number l * 256 + b
-unfolding number
-number-snoc [] b = omega arith
-number-snoc (x ∷ l) b =
-    let e : length (l ++ (b ∷ [])) ≡ suc (length l) = length-append l (b ∷ []) ∙ omega arith in
-    let m : x * 256 ^ suc (length l) ≡ x * 256 ^ length l * 256 = rw (pow-suc, mul-assoc) in
-    rw (e, number-snoc l b) (omega arith)
-
-pub number-none : (s : List ℕ) → number (take 0 s) ≡ 0
-unfolding number
-number-none s = refl
-
-pub number-more : (i : ℕ) (s : List ℕ) (at : ℕ) → at + i < length s → number (take (suc i) (drop at s)) ≡ number (take i (drop at s)) * 256 + getD s (at + i) 0
-number-more i s at h =
-    let g : i < length (drop at s) = omega (arith, length-drop at s) in
-    rw (take-suc (drop at s) i 0 g) (number-snoc (take i (drop at s)) (getD (drop at s) i 0) ∙ rw getD-drop)
 
 -- ---- a list of numbers
 numbers-snoc : (i w : ℕ) (s : List ℕ) → numbers (suc i) w s ≡ numbers i w s ++ (number (take w (drop (i * w) s)) ∷ [])

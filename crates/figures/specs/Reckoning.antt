@@ -1,6 +1,6 @@
 -- Document 01, "Projection" and "A year's figures", over years: the reckoning that a ledger carries.
 -- Assumes nothing.
-use Prim.Native.Nat.{ℕ, _+_, _≤_}
+use Prim.Native.Nat.{ℕ, _+_}
 use mathlib.Core.List.{List, [], _∷_}
 use lib.ListN.{length}
 use lib.IntN.{ℤ, pos, _+ℤ_}
@@ -42,16 +42,6 @@ afterYear t y r = record {
   belt = projectedRegion (t .matrix) (r .belt);
   total = r .total +ℤ yearFigures t y (r .project) (r .belt) .credited .0;
 }
-
--- the years one after the other
-unfoldable pub afterYears : Terms → List Year → Reckoning → Reckoning
-afterYears t [] r = r
-afterYears t (y ∷ ys) r = afterYears t ys (afterYear t y r)
-
--- no year has more operating days than days
-abbrev pub DaysAllowed : List Year → Type 0
-DaysAllowed [] = Unit {0}
-DaysAllowed (y ∷ ys) = (y .operatingDays ≤ daysInYear (y .year)) × DaysAllowed ys
 
 -- the activity records of the years
 unfoldable pub recordCount : List Year → ℕ

@@ -76,27 +76,6 @@ eights-suc figures y d h = rw (take-suc figures y d h, eights-append (take y fig
 pub length-years : (k : ℕ) (figures : List Figures) → k ≤ length figures → length (eights (take k figures)) ≡ 8 * k
 length-years k figures h = length-eights (take k figures) ∙ rw (length-take-le k figures h)
 
--- a report of k years has 8 × k + 4 numbers; total, project balance and belt balance stand at the places 8 × k, 8 × k + 2 and 8 × k + 3
-module _ (k : ℕ) (figures : List Figures) (total : ℤ) (project belt : ℕ) (h : k ≤ length figures) where
-  pub length-reported : length (reported k figures total project belt) ≡ 8 * k + 4
-  unfolding reported
-  length-reported = length-append (eights (take k figures)) (closing total project belt) ∙ rw (length-years k figures h)
-
-  pub total-place : (reported k figures total project belt ≡ eights (take k figures) ++ (total ∷ pos (tonnesOf total) ∷ pos project ∷ pos belt ∷ []))
-      × (length (eights (take k figures)) ≡ 8 * k)
-  unfolding reported
-  total-place = (refl, length-years k figures h)
-
-  pub project-place : (reported k figures total project belt ≡ (eights (take k figures) ++ (total ∷ pos (tonnesOf total) ∷ [])) ++ (pos project ∷ pos belt ∷ []))
-      × (length (eights (take k figures) ++ (total ∷ pos (tonnesOf total) ∷ [])) ≡ 8 * k + 2)
-  unfolding reported
-  project-place = (rw append-assoc, rw (length-append, length-years k figures h))
-
-  pub belt-place : (reported k figures total project belt ≡ (eights (take k figures) ++ (total ∷ pos (tonnesOf total) ∷ pos project ∷ [])) ++ (pos belt ∷ []))
-      × (length (eights (take k figures) ++ (total ∷ pos (tonnesOf total) ∷ pos project ∷ [])) ≡ 8 * k + 3)
-  unfolding reported
-  belt-place = (rw append-assoc, rw (length-append, length-years k figures h))
-
 -- the figures of year y are written after those of the years before it
 pub written-year : (figures : List Figures) (y : ℕ) (d : Figures) (buffer : List ℕ) → y < length figures → 64 * y + 64 ≤ length buffer
     → sets (written (eights (take y figures)) buffer) (64 * y) (figuresBytes (eight (getD figures y d))) ≡ written (eights (take (y + 1) figures)) buffer
