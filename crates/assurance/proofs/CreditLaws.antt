@@ -1,4 +1,4 @@
--- How far a credit is from its unrounded value. (The one file of proofs that another discount touches.)
+-- How far a credit is from its unrounded value.
 -- Assumes nothing.
 use Prim.Native.Nat.{ℕ, _+_, _*_, _≤_, _<_}
 use native.Mathlib.Nat.{mul-le-mul-right, zero-lt-suc}

@@ -1,4 +1,4 @@
--- Document 01, "Calls and sheet": figures of 64 bits, big-endian, two's complement. `signed-figure`, in proofs/SignedLaws, reads them back.
+-- Document 01, "Calls and sheet": figures of 64 bits, big-endian, two's complement. `written-figure`, in proofs/SignedLaws, reads them back.
 -- Assumes nothing.
 use Prim.Native.Nat.{ℕ, _+_, _-_, _*_, _^_}
 use mathlib.Core.Bool.{cond}
