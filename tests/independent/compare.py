@@ -11,7 +11,7 @@ import subprocess
 import sys
 
 import reckoner
-from dossiers import bare, encode, full, greatest, long, pieces, small, sound, spoiled, typical, ways
+from dossiers import bare, encode, full, greatest, long, pieces, small, sound, spoiled, typical, ways, zeros
 
 NUMBERS = {"reckon": range(11), "open": range(6), "year": (0, 1, 2, 6, 7, 8, 9), "close": (0, 10)}
 
@@ -158,7 +158,7 @@ def main():
     seed, rounds = map(int, given + ["4", "30"][len(given):])
     comparison = Comparison(library, yearsheet, ledgertrace, seed)
     for k in range(rounds):
-        for kind in (small, typical, full, bare, *((long, greatest) if k % 4 == 0 else ())):
+        for kind in (small, typical, full, bare, *((zeros, long, greatest) if k % 4 == 0 else ())):
             comparison.dossiers(kind)
         for _ in range(3):
             comparison.calls()

@@ -91,12 +91,16 @@ def bare(rng):
     return dict(n=rng.randint(1, 3), project=rng.choice((1, LIMIT)), belt=0, activities=0, cells=1)
 
 
+def zeros(rng):
+    return dict(n=rng.randint(1, 2), project=1, belt=0, activities=4, cells=1, amount=min)
+
+
 def long(rng):
     return dict(n=20, project=rng.randint(1, LIMIT), belt=rng.randint(0, LIMIT), activities=60)
 
 
 def greatest(rng):
-    return dict(option=2, first=2200, n=20, project=LIMIT, belt=LIMIT, activities=60, cells=1, most=True)
+    return dict(option=2, first=2200, n=20, project=LIMIT, belt=LIMIT, activities=60, cells=1, amount=max)
 
 
 def parts(rng, total, count, cells):
@@ -109,19 +113,24 @@ def parts(rng, total, count, cells):
     return numbers
 
 
-def activity(rng, most=False):
+def any_amount(amounts, rng):
+    return rng.choice((*amounts, rng.randint(*amounts), rng.randint(*amounts), 1 if amounts[1] else 0))
+
+
+def activity(rng, amount=None):
+    """A record in range; amount picks each quantity from the least and the greatest that it may be."""
     mark = rng.choice(list(GREATEST))
     kinds, amounts = (2, 2) if mark == "NI" else (1, len(GREATEST[mark]) - 1)
     fields = [rng.randint(1, top) for top in GREATEST[mark][:kinds]] + GREATEST[mark][kinds:]
     product = 1
     for f in rng.sample(range(kinds, kinds + amounts), amounts):
         top = min(fields[f], LIMIT // product) if mark == "VE" else fields[f]
-        fields[f] = top if most else rng.choice((0, 1, top, rng.randint(0, top), rng.randint(0, top)))
+        fields[f] = amount((0, top)) if amount else any_amount((0, top), rng)
         product *= max(fields[f], 1)
     return mark, fields
 
 
-def made(rng, n, project, belt, activities, option=None, first=None, cells=None, most=False):
+def made(rng, n, project, belt, activities, option=None, first=None, cells=None, amount=None):
     def spread(total, count):
         return parts(rng, total, count, cells or rng.choice((1, 3, count)))
 
@@ -129,8 +138,8 @@ def made(rng, n, project, belt, activities, option=None, first=None, cells=None,
     rows = [p for _ in CLASSES for p in spread(1000000, 12)]
     records = opening(option or rng.randint(1, 2), first, n, spread(project, 12), spread(belt, 12), rows)
     for number in range(first, first + n):
-        days = days_of(number) if most else rng.choice((1, days_of(number), rng.randint(1, 365)))
-        run = [activity(rng, most) for _ in range(activities)]
+        days = days_of(number) if amount else rng.choice((1, days_of(number), rng.randint(1, 365)))
+        run = [activity(rng, amount) for _ in range(activities)]
         records += year(number, days, spread(project, 144), spread(belt, 144), *run)
     return records + [END]
 

@@ -159,7 +159,9 @@ def marks():
     for place, data, due in spots:
         for mark in [mark for mark in (*FIELDS, due[0].lower(), "??") if mark not in due]:
             yield refused(2, f"{mark} {place}", data + mark.encode())
-    yield refused(2, "CD after LI", before(one, "EN") + b"CD")
+    for mark, after in (("FU", "VE"), ("VE", "NI"), ("NI", "LI"), ("LI", "EN")):
+        for wrong in ("HD", "CD"):
+            yield refused(2, f"{wrong} after {mark}", before(one, after) + wrong.encode())
     yield refused(2, "EN after the first of two years", before(base(n=2), "YR", 1) + b"EN")
 
 

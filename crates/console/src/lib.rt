@@ -1,14 +1,17 @@
-// What the testers' programs read and print.
+// What the testers' programs read and print. What the input brings is free; the contracts say what holds of it.
 use libc::STDIN_FILENO;
 use libc::STDOUT_FILENO;
 ghost use Prim.Native.Nat.{_*_, _≤_, _<_};
+ghost use mathlib.Core.Path.{_≡_};
 ghost use lib.ListN.{length};
 
 // The next byte on standard input, or 0 where it has ended.
-pub fn read_byte() -> u8 {
+pub fn read_byte() -> u64
+    ensures { λ r. ⌜ r < 256 ⌝ }
+{
     let mut byte = [0u8; 1];
     io::read_full(STDIN_FILENO, &mut byte);
-    byte[0]
+    wire::field8(&byte, 0)
 }
 
 // The next 32-bit length on standard input, or 65,537 where the input has ended or the length is more than 65,536.
@@ -29,7 +32,9 @@ pub fn read_length() -> usize
 }
 
 // Fills a piece from standard input; whether the input went that far.
-pub fn read_piece(piece: &mut [u8]) -> bool {
+pub fn read_piece(piece: &mut [u8]) -> bool
+    ensures { λ _. ⌜ length (now (piece .exit)) ≡ length (now (piece .entry)) ⌝ }
+{
     io::read_full(STDIN_FILENO, piece) == piece.len()
 }
 

@@ -10,6 +10,13 @@ ghost use Prim.Native.Nat.{_<_};
 ghost use mathlib.Core.Path.{_≡_};
 ghost use Rattle.ledgertrace.specs.Trace.{Traced};
 
+// The bytes O, Y and C.
+const OPEN: u64 = 0x4f;
+
+const YEAR: u64 = 0x59;
+
+const CLOSE: u64 = 0x43;
+
 // The ledger, how many years it was given, and how many more calls the list may have: none once it has ended.
 struct Trace {
     ledger: Ledger,
@@ -75,14 +82,14 @@ fn trace_call(mut trace: Trace) -> Trace
     let mut space = io::large_buffer();
     trace.left = trace.left - 1;
     if length <= 65536 {
-        if mark == b'C' {
+        if mark == CLOSE {
             return trace_close(trace, &mut space[..length]);
         }
         let is_whole = console::read_piece(&mut space[..length]);
-        if is_whole && mark == b'O' {
+        if is_whole && mark == OPEN {
             return trace_open(trace, &space[..length]);
         }
-        if is_whole && mark == b'Y' {
+        if is_whole && mark == YEAR {
             return trace_year(trace, &space[..length]);
         }
     }
