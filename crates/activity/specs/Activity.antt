@@ -14,8 +14,8 @@ pub record Within (low x high : ℕ) : Type 0 where
   pub most : x ≤ high
 
 -- the first, second or third of three, for 1, 2 and 3
-abbrev third : ℕ → ℕ → ℕ → ℕ → ℕ
-third k a b c = getD (a ∷ b ∷ c ∷ []) (k - 1) 0
+abbrev ofThree : ℕ → ℕ → ℕ → ℕ → ℕ
+ofThree k a b c = getD (a ∷ b ∷ c ∷ []) (k - 1) 0
 
 -- FU: kind (1 diesel, 2 gasoline, 3 crude), grams of fuel up to 10^12
 pub record FuelInRange (kind grams : ℕ) : Type 0 where
@@ -24,7 +24,7 @@ pub record FuelInRange (kind grams : ℕ) : Type 0 where
 
 -- grams × 318,630, 306,999 or 310,059 ÷ 100,000 (document 001, J(5): net calorific value × emission factor)
 abbrev pub fuelFactor : ℕ → ℕ
-fuelFactor kind = third kind 318630 306999 310059
+fuelFactor kind = ofThree kind 318630 306999 310059
 
 -- VE: kind, count up to 1,000, average km or hours up to 1,000,000, grams of fuel per km or hour up to 100,000;
 -- their product, up to 10^12, is fuel as in FU
@@ -56,7 +56,7 @@ pub record LimeInRange (material grams : ℕ) : Type 0 where
 
 -- grams × 132, 143 or 220 ÷ 300 (document 001, equations 25 and 26: 0.12, 0.13, 0.20 × 44 ÷ 12)
 abbrev pub limeFactor : ℕ → ℕ
-limeFactor material = third material 132 143 220
+limeFactor material = ofThree material 132 143 220
 
 -- the fields of a record are in range
 abbrev pub ActivityInRange : Activity → Type 0

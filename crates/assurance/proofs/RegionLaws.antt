@@ -46,7 +46,7 @@ opened-follows areas = record {
 }
 
 pub follows-assured : (y start : ℕ) (region : Region) (areasᶠ : ℕ → Fraction) → Follows y start region areasᶠ → RegionAssured y start (region .areas) (region .balance .0) areasᶠ
-follows-assured y start region areasᶠ s = record { made-up = s .kept; not-above = λ i h. ratio-above (area (region .areas) i) (s .n-pos) (s .ratio i h) (s .below i h); small = s .small }
+follows-assured y start region areasᶠ s = record { area-kept = s .kept; not-above = λ i h. ratio-above (area (region .areas) i) (s .n-pos) (s .ratio i h) (s .below i h); small = s .small }
 
 gap-closed : (v C W U G N S B K : ℕ) → v + W * N * G ≤ C * N + U * G → U ≡ S * N → W + B ≡ S → B ≤ K → v ≤ (C + G * K) * N
 gap-closed v C W U G N S B K h u w b = omega (arith, ap (λ (t : ℕ). t * G) u, ap (λ (t : ℕ). t * (N * G)) w, mul-le-mul-right (N * G) b)

@@ -14,7 +14,7 @@ use Rattle.assurance.specs.Unrounded.{Unrounded}
 -- of project area and belt alike, after y accepted years from a starting area: the twelve projected areas and the balance make up the starting
 -- area exactly; no projected area exceeds its unrounded one; the balance is at most 132 × y
 pub record RegionAssured (y start : ℕ) (areas : List AreaUnits) (balance : ℕ) (unrounded : ℕ → Fraction) : Type 0 where
-  pub made-up : areaTotal areas + balance ≡ start
+  pub area-kept : areaTotal areas + balance ≡ start
   pub not-above : (i : ℕ) → i < classes → whole (pos (area areas i)) ≤ᶠ unrounded i
   pub small : balance ≤ 132 * y
 
