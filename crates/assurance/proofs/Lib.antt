@@ -2,4 +2,3 @@ pub mod RegionLaws
 pub mod CreditLaws
 pub mod YearLaws
 pub mod Assurance
-pub mod Examples

@@ -1,3 +1,2 @@
 pub mod Unrounded
 pub mod Assurance
-pub mod Examples

@@ -1,42 +1,18 @@
--- Examples, computed from the definitions alone: case A of document 01, and edges.
+-- Edges, computed from the definitions alone.
 -- Assumes nothing.
 use Prim.Native.Nat.{ℕ}
 use mathlib.Core.Path.{_≡_, refl}
-use mathlib.Core.Option.{none}
 use mathlib.Core.List.{List, [], _∷_}
-use lib.ListN.{take, replicate, set}
+use lib.ListN.{take, set}
 use Rattle.arithmetic.specs.Sum.{sum, listed}
 use Rattle.classes.specs.Classes.{deforestationProbabilities}
-use Rattle.classes.specs.Calendar.{daysInYear}
 use Rattle.classes.specs.Matrix.{optionOne, optionOneMatrix}
 use Rattle.activity.specs.declared.Activity.the-variants.{Fuel, Vehicles, Nitrogen, Lime}
-use Rattle.wire.specs.Bytes.{number, bytes, numbers, bytesOfEach, joined, total}
+use Rattle.wire.specs.Bytes.{number, bytes, numbers, bytesOfEach, joined}
 use Rattle.dossier.specs.Marks.{HD}
-use Rattle.dossier.specs.Records.{headBytes, areasBytes, matrixBytes, optionBytes, openingBytes, settled, next, conversionsBytes, activityBytes, yearBytes, Dossier, dossierBytes}
-use Rattle.dossier.specs.Reader.{accepted, numberOf, _>>=_, _>>_, give, refuse, mark, stands, upon, present, begin, field, fields, outside, within, equal, nothing}
-use Rattle.dossier.specs.JudgingRecords.{head, areas, rows, matrix, matrixUnder, conversions, fuel, vehicles, nitrogen, lime, activityMark, activity}
-use Rattle.dossier.specs.Judging.{opening, run, activities, noneLeft, yearDue, year, end, years, dossier, bufferNumber, callNumber}
-
-abbrev caseA : Dossier
-caseA = record {
-  opening = record {
-    head = record { option = 1; firstYear = 2020; years = 1 };
-    projectAreas = 100000000 ∷ replicate 11 0;
-    beltAreas = replicate 12 0;
-    matrix = none;
-  };
-  years = record {
-    year = 2020;
-    operatingDays = 366;
-    conversions = set (99000000 ∷ replicate 143 0) 11 1000000;
-    beltConversions = replicate 144 0;
-    activities = Fuel 1 100000 ∷ [];
-  } ∷ [];
-}
-
-case-a : (dossier (dossierBytes caseA) ≡ accepted caseA []) × (callNumber (dossierBytes caseA) 96 ≡ 0) × (callNumber (dossierBytes caseA) 95 ≡ 10)
-unfolding number bytes numbers bytesOfEach joined total headBytes areasBytes optionBytes openingBytes settled next conversionsBytes activityBytes yearBytes dossierBytes daysInYear _>>=_ _>>_ give refuse mark stands upon present begin field fields outside within equal nothing head areas matrixUnder conversions fuel activityMark activity opening run activities noneLeft yearDue year end years dossier bufferNumber callNumber
-case-a = (refl, refl, refl)
+use Rattle.dossier.specs.Records.{matrixBytes, activityBytes}
+use Rattle.dossier.specs.Reader.{numberOf, _>>=_, _>>_, give, mark, stands, upon, present, begin, field, fields, outside, within, equal}
+use Rattle.dossier.specs.JudgingRecords.{head, rows, matrix, fuel, vehicles, nitrogen, lime, activity}
 
 -- HD with its three fields
 abbrev headOf : ℕ → ℕ → ℕ → List ℕ

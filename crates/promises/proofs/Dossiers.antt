@@ -1,6 +1,6 @@
 -- Every accepted dossier: the whole reckoning is open, n years and close over its pieces; demand 3 of its own figures.
 -- Assumes nothing.
-use Prim.Native.Nat.{ℕ, _+_, _*_}
+use Prim.Native.Nat.{ℕ, _+_, _*_, _≤_}
 use mathlib.Core.Path.{_≡_, refl, _∙_, ap, ap₂, sym}
 use mathlib.Core.Bool.{Bool, true, false, cond}
 use mathlib.Core.List.{List, [], _++_, map, append-nil}
@@ -11,6 +11,7 @@ use lib.IntN.{ℤ}
 use lib.ListN.{length, take}
 use lib.Seq.{take-all}
 use Rattle.arithmetic.specs.Fraction.{Fraction}
+use Rattle.figures.specs.Year.{Year}
 use Rattle.figures.specs.Reckoning.{recordCount}
 use Rattle.wire.specs.Bytes.{Bytes, bytes, joined, total}
 use Rattle.wire.proofs.BytesLaws.{bytes-before, bytes-after}
@@ -24,6 +25,7 @@ use Rattle.dossier.specs.Judging.{dossier, openingPiece, bufferNumber, callNumb
 use Rattle.dossier.specs.Claims.{YearPieces}
 use Rattle.dossier.proofs.WellFormed.{dossier-accepted, opening-accepted}
 use Rattle.dossier.proofs.Pieces.{in-pieces, the-pieces}
+use Rattle.dossier.proofs.Numbers.{call-zero}
 use Rattle.reckoner.specs.declared.Ledger.{Ledger}
 use Rattle.reckoner.specs.declared.Answer.{Answer}
 use Rattle.reckoner.specs.Ledger.{openedWith, openedLedger, dueOf, givenYears, ledgerOf}
@@ -31,8 +33,8 @@ use Rattle.reckoner.specs.Calls.{answerNumber, openCall, closeCall, closedBuffe
 use Rattle.promises.specs.CallList.{Call, ledgerAfter, firstYears}
 use Rattle.promises.specs.Account.{openedAccount, projectStart, beltStart, accountAfter}
 use Rattle.promises.specs.Promises.{RegionsReported, ListAssured}
-use Rattle.promises.specs.DossierPromises.{yearCalls, AllAccepted, SameInPieces, dossierᶠ, DossierAssured}
-use Rattle.promises.proofs.DossierLaws.{years-after, years-accepted, years-first, years-lent, AccountGiven, years-account}
+use Rattle.promises.specs.DossierPromises.{yearCalls, SameInPieces, dossierᶠ, dossierLedger, DossierAssured, CallAssured}
+use Rattle.promises.proofs.DossierLaws.{years-after, years-accepted, years-first, years-lent, years-begun, AccountGiven, years-account}
 use Rattle.promises.proofs.Demand3.{demand3}
 
 -- what is said of some numbers is said of their equals
@@ -82,12 +84,19 @@ module _ (s : List ℕ) (b : Bytes s) (d : Dossier) (e : dossier s ≡ accepted 
       let b′ : Bytes (opening ++ (joined (map yearBytes (d .years)) ++ bytes 2 EN)) = rw cut at b in
       demand3 opening (bytes-before opening _ b′) (yearCalls (d .years)) (years-lent (d .years) (bytes 2 EN) (bytes-after opening _ b′))
 
-  the-account : AccountGiven (d .years) (openedAccount (accepted (d .opening) [])) (accountAfter opening (yearCalls (d .years)))
+  the-account : (y : ℕ) → AccountGiven (take y (d .years)) (openedAccount (accepted (d .opening) [])) (accountAfter opening (yearCalls (take y (d .years))))
   unfolding accountAfter
-  the-account = rw the-opening (years-account (d .years) (openedAccount (accepted (d .opening) [])) the-years)
+  the-account y = rw the-opening (years-account (take y (d .years)) (openedAccount (accepted (d .opening) [])) (years-begun (d .years) y (settled (d .opening)) the-years))
+
+  -- its first n years are all
+  all-years : take n (d .years) ≡ d .years
+  all-years = take-all n (d .years) (omega (arith, the-count))
+
+  whole-account : AccountGiven (d .years) (openedAccount (accepted (d .opening) [])) (accountAfter opening (yearCalls (d .years)))
+  whole-account = rw all-years at (the-account n)
 
   counted : accountAfter opening (yearCalls (d .years)) .years ≡ n
-  counted = omega (arith, the-account .years, the-count)
+  counted = omega (arith, whole-account .years, the-count)
 
   given-is : ledgerAfter opening (yearCalls (d .years)) .given ≡ n
   given-is = the-list .count ∙ counted
@@ -104,15 +113,12 @@ module _ (s : List ℕ) (b : Bytes s) (d : Dossier) (e : dossier s ≡ accepted 
   unfolding reckonBuffer
   same-buffer buffer = rw e (ap (λ (l : Ledger). closedBuffer l buffer) (sym ledger-is))
 
-  all-accepted : AllAccepted (openCall opening .ledger) (yearCalls (d .years))
-  all-accepted = years-accepted (d .years) (openCall opening .ledger) due-opened
-
   pub same-in-pieces : SameInPieces s d
   same-in-pieces = record {
     pieces = cut;
     count = the-count;
     opened = unfold openCall in rw the-opening;
-    given = all-accepted;
+    given = years-accepted (d .years) (openCall opening .ledger) due-opened;
     ledger = ledger-is;
     number = same-number;
     buffers = same-buffer;
@@ -120,26 +126,44 @@ module _ (s : List ℕ) (b : Bytes s) (d : Dossier) (e : dossier s ≡ accepted 
 
   the-first : (y : ℕ) → firstYears y opening (yearCalls (d .years)) ≡ yearCalls (take y (d .years))
   unfolding firstYears
-  the-first y = years-first (d .years) y (openCall opening .ledger) all-accepted
+  the-first y = years-first (d .years) y (openCall opening .ledger) due-opened
 
-  the-last : firstYears n opening (yearCalls (d .years)) ≡ yearCalls (d .years)
-  the-last = the-first n ∙ ap yearCalls (take-all n (d .years) (omega (arith, the-count)))
-
-  unrounded-is : accountAfter opening (yearCalls (d .years)) .unrounded ≡ dossierᶠ d
+  unrounded-is : (y : ℕ) → accountAfter opening (yearCalls (take y (d .years))) .unrounded ≡ dossierᶠ y d
   unfolding dossierᶠ
-  unrounded-is = the-account .unrounded
+  unrounded-is y = the-account y .unrounded
+
+  last-unrounded : accountAfter opening (yearCalls (d .years)) .unrounded ≡ dossierᶠ n d
+  last-unrounded = ap (λ (ys : List Year). accountAfter opening (yearCalls ys) .unrounded) (sym all-years) ∙ unrounded-is n
+
+  -- closing after its y-th year
+  the-regions : (y : ℕ) → y ≤ n → (buffer : List ℕ) → 64 * y + 32 ≤ length buffer
+      → RegionsReported y (total (d .opening .projectAreas)) (total (d .opening .beltAreas)) (dossierLedger y d) (dossierᶠ y d) (closedBuffer (dossierLedger y d) buffer)
+  the-regions y k buffer h =
+      let calls = the-first y in
+      regions-moved (ap projectStart the-opening) (ap beltStart the-opening) (ap (ledgerAfter opening) calls)
+      (ap (λ (c : List Call). accountAfter opening c .unrounded) calls ∙ unrounded-is y) (ap (λ (c : List Call). closedBuffer (ledgerAfter opening c) buffer) calls)
+      (the-list .regions y (omega (arith, counted)) buffer h)
+
+  last-given : dossierLedger n d ≡ ledgerAfter opening (yearCalls (d .years))
+  last-given = ap (λ (ys : List Year). ledgerAfter opening (yearCalls ys)) all-years
 
   pub dossier-assured : DossierAssured s d
   dossier-assured = record {
     list = the-list;
     first = the-first;
     unrounded = unrounded-is;
+    regions = the-regions;
     own-total = λ buffer h.
-        total-moved counted (the-account .records ∙ zero-add (recordCount (d .years))) (ap₂ figureAt (sym (same-buffer buffer)) (ap (λ (k : ℕ). 64 * k) counted)) (ap (λ (u : Unrounded). u .total) unrounded-is)
+        total-moved counted (whole-account .records ∙ zero-add (recordCount (d .years))) (ap₂ figureAt (sym (same-buffer buffer)) (ap (λ (k : ℕ). 64 * k) counted)) (ap (λ (u : Unrounded). u .total) last-unrounded)
         (the-list .total buffer (omega (arith, counted)));
     own-regions = λ buffer h.
-        let calls = the-last in
-        regions-moved (ap projectStart the-opening) (ap beltStart the-opening) (ap (ledgerAfter opening) calls ∙ ledger-is)
-        (ap (λ (c : List Call). accountAfter opening c .unrounded) calls ∙ unrounded-is) (ap (λ (c : List Call). closedBuffer (ledgerAfter opening c) buffer) calls ∙ sym (same-buffer buffer))
-        (the-list .regions n (omega (arith, counted)) buffer h);
+        regions-moved refl refl (last-given ∙ ledger-is) refl (ap (λ (l : Ledger). closedBuffer l buffer) last-given ∙ sym (same-buffer buffer))
+        (the-regions n (omega arith) buffer h);
   }
+
+-- from the number that the whole reckoning answers
+pub accepted-assured : (s : List ℕ) → Bytes s → (size : ℕ) → callNumber s size ≡ 0 → CallAssured s size
+accepted-assured s b size h =
+    let w = call-zero s b size .1 h in
+    let e : dossier s ≡ accepted (w .0) [] = ap dossier (w .2) ∙ dossier-accepted .complete (w .0) (w .1) in
+    record { dossier = w .0; inRange = w .1; whole = w .2; enough = w .3; pieces = same-in-pieces s b (w .0) e; assured = dossier-assured s b (w .0) e }

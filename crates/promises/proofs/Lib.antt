@@ -4,3 +4,4 @@ pub mod Demand3
 pub mod Accepted
 pub mod DossierLaws
 pub mod Dossiers
+pub mod Examples

@@ -1,4 +1,4 @@
--- "accepted exactly when", of each call.
+-- "accepted exactly when", of each call: it answers the number 0.
 -- Assumes nothing.
 use Prim.Native.Nat.{ℕ, _+_, _*_, _≤_}
 use mathlib.Core.Path.{_≡_}
@@ -8,14 +8,13 @@ use Rattle.wire.specs.Bytes.{Bytes}
 use Rattle.dossier.specs.Records.{WellFormed, WellFormedOpening, WellFormedYear}
 use Rattle.dossier.specs.Judging.{callNumber}
 use Rattle.reckoner.specs.declared.Ledger.{Ledger}
-use Rattle.reckoner.specs.declared.Answer.{Answer}
 use Rattle.reckoner.specs.Ledger.{dueOf}
-use Rattle.reckoner.specs.Calls.{openCall, yearCall, closeCall, HandedBack}
+use Rattle.reckoner.specs.Calls.{answerNumber, openCall, yearCall, closeCall, HandedBack}
 
 -- an opening where its piece is well formed; a year where its piece is, for what the ledger has due; a closing where its buffer is long enough for
 -- the years given; the whole reckoning where the dossier is well formed and the buffer long enough for its n years
 pub record AcceptedWhen : Type 0 where
-  pub opening : (piece : List ℕ) → Bytes piece → (openCall piece .answer ≡ Answer.Accepted) ↔ WellFormedOpening piece
-  pub year : {l : Ledger} → HandedBack l → (piece : List ℕ) → Bytes piece → (yearCall l piece .answer ≡ Answer.Accepted) ↔ WellFormedYear (dueOf l) piece
-  pub close : (l : Ledger) (size : ℕ) → (closeCall l size .answer ≡ Answer.Accepted) ↔ (64 * l .given + 32 ≤ size)
+  pub opening : (piece : List ℕ) → Bytes piece → (answerNumber (openCall piece .answer) ≡ 0) ↔ WellFormedOpening piece
+  pub year : {l : Ledger} → HandedBack l → (piece : List ℕ) → Bytes piece → (answerNumber (yearCall l piece .answer) ≡ 0) ↔ WellFormedYear (dueOf l) piece
+  pub close : (l : Ledger) (size : ℕ) → (answerNumber (closeCall l size .answer) ≡ 0) ↔ (64 * l .given + 32 ≤ size)
   pub reckoning : (s : List ℕ) → Bytes s → (size : ℕ) → (callNumber s size ≡ 0) ↔ ((w : WellFormed s) × (64 * w .0 .opening .head .years + 32 ≤ size))

@@ -3,3 +3,4 @@ pub mod Account
 pub mod Promises
 pub mod DossierPromises
 pub mod Accepted
+pub mod Examples

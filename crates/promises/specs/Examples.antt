@@ -1,51 +1,46 @@
--- Document 01, "Checked examples": the marked ones as one table, each beside what the document states.
+-- Document 01, "Checked examples": the marked ones as one table, each beside what the document states, from the definitions that the contracts cite.
 -- Assumes nothing.
 use Prim.Native.Nat.{ℕ}
+use mathlib.Core.Option.{none}
 use mathlib.Core.List.{List, [], _∷_, _++_}
 use lib.IntN.{ℤ, pos, negsuc}
 use lib.ListN.{replicate}
-use Rattle.classes.specs.declared.AreaUnits.{AreaUnits}
 use Rattle.classes.specs.Classes.{TP, NF, carbonStocks, emissionFactor}
 use Rattle.classes.specs.Matrix.{optionOneMatrix}
 use Rattle.classes.specs.Calendar.{daysInYear}
 use Rattle.projection.specs.declared.Region.{Region}
-use Rattle.projection.specs.Projection.{area, openedRegion, projectedRegion}
+use Rattle.projection.specs.Projection.{area, openedRegion, projectedYear}
 use Rattle.activity.specs.declared.Activity.the-variants.{Fuel, Nitrogen, Lime}
 use Rattle.activity.specs.Activity.{activityGrams}
-use Rattle.figures.specs.declared.Figures.{Figures}
-use Rattle.figures.specs.Year.{Terms, Year}
-use Rattle.figures.specs.Figures.{creditedOf, tonnesOf}
-use Rattle.figures.specs.Reckoning.{yearFigures, Reckoning, opened, afterYear}
+use Rattle.figures.specs.Figures.{creditedOf}
+use Rattle.wire.specs.Signed.{figureAt}
+use Rattle.dossier.specs.Records.{Dossier, dossierBytes}
+use Rattle.reckoner.specs.Ledger.{units}
+use Rattle.reckoner.specs.Calls.{reckonBuffer}
 
--- ---- case A
-unfoldable pub onlyE : ℕ → List AreaUnits
-onlyE units = record { 0 = units } ∷ replicate 11 (record { 0 = 0 })
+unfoldable pub onlyE : ℕ → List ℕ
+onlyE area = area ∷ replicate 11 0
 
-unfoldable pub termsA : Terms
-termsA = record { option = 1; matrix = optionOneMatrix; stocks = carbonStocks }
-
-unfoldable pub openedA : Reckoning
-openedA = opened (onlyE 100000000) (onlyE 0)
-
--- E to E 99,000,000, E to NF 1,000,000
-unfoldable pub yearA : Year
-yearA = record {
-  year = 2020;
-  operatingDays = 366;
-  conversions = (99000000 ∷ replicate 10 0) ++ (1000000 ∷ replicate 132 0);
-  beltConversions = replicate 144 0;
-  activities = Fuel 1 100000 ∷ [];
+-- "Case A: Option 1, 2020, n 1; PA only E 100,000,000; DA zero; d 366; CP E to E 99,000,000, E to NF 1,000,000; CD zero; FU diesel 100,000"
+unfoldable pub caseA : Dossier
+caseA = record {
+  opening = record { head = record { option = 1; firstYear = 2020; years = 1 }; projectAreas = onlyE 100000000; beltAreas = replicate 12 0; matrix = none };
+  years = record {
+    year = 2020;
+    operatingDays = 366;
+    conversions = (99000000 ∷ replicate 10 0) ++ (1000000 ∷ replicate 132 0);
+    beltConversions = replicate 144 0;
+    activities = Fuel 1 100000 ∷ [];
+  } ∷ [];
 }
 
-unfoldable pub figuresA : Figures
-figuresA = yearFigures termsA yearA (openedA .project) (openedA .belt)
+-- the whole reckoning of its bytes, with a buffer of 96 bytes
+unfoldable pub bufferA : List ℕ
+bufferA = reckonBuffer (dossierBytes caseA) (replicate 96 0)
 
-unfoldable pub closedA : Reckoning
-closedA = afterYear termsA yearA openedA
-
--- ---- E 3 units, Option 1, one year
+-- E 3 units, Option 1, one year
 unfoldable pub threeUnits : Region
-threeUnits = projectedRegion optionOneMatrix (openedRegion (onlyE 3))
+threeUnits = projectedYear (emissionFactor carbonStocks) optionOneMatrix (openedRegion (units (onlyE 3))) .region
 
 -- ---- the table: what the definitions give, and what document 01 states
 pub record Example : Type 0 where
@@ -58,18 +53,18 @@ example given stated = record { given = given; stated = stated }
 unfoldable pub examples : List Example
 examples =
     -- A: reference, project, activity, belt, belt reference, displaced, reduction, credited; total, tonnes, project and belt balance
-    example (figuresA .reference .0) (pos 833569000)
-    ∷ example (figuresA .project .0) (pos 334766667)
-    ∷ example (figuresA .activity .0) (pos 318630)
-    ∷ example (figuresA .belt .0) (pos 0)
-    ∷ example (figuresA .«belt_reference» .0) (pos 0)
-    ∷ example (figuresA .displaced .0) (pos 0)
-    ∷ example (figuresA .reduction .0) (pos 498483703)
-    ∷ example (figuresA .credited .0) (pos 398786962)
-    ∷ example (closedA .total) (pos 398786962)
-    ∷ example (pos (tonnesOf (closedA .total))) (pos 398)
-    ∷ example (pos (closedA .project .balance .0)) (pos 0)
-    ∷ example (pos (closedA .belt .balance .0)) (pos 0)
+    example (figureAt bufferA 0) (pos 833569000)
+    ∷ example (figureAt bufferA 8) (pos 334766667)
+    ∷ example (figureAt bufferA 16) (pos 318630)
+    ∷ example (figureAt bufferA 24) (pos 0)
+    ∷ example (figureAt bufferA 32) (pos 0)
+    ∷ example (figureAt bufferA 40) (pos 0)
+    ∷ example (figureAt bufferA 48) (pos 498483703)
+    ∷ example (figureAt bufferA 56) (pos 398786962)
+    ∷ example (figureAt bufferA 64) (pos 398786962)
+    ∷ example (figureAt bufferA 72) (pos 398)
+    ∷ example (figureAt bufferA 80) (pos 0)
+    ∷ example (figureAt bufferA 88) (pos 0)
     -- factor E to SE 0; E to TP 0; MR to E 110; TP to NF 5654
     ∷ example (pos (emissionFactor carbonStocks 0 1)) (pos 0)
     ∷ example (pos (emissionFactor carbonStocks 0 TP)) (pos 0)
