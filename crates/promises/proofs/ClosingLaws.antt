@@ -1,7 +1,7 @@
 -- The bytes that closing writes, read back.
 -- Assumes nothing.
 use Prim.Native.Nat.{ℕ, zero, suc, _+_, _*_, _^_, _≤_, _<_}
-use mathlib.Core.Path.{_≡_, refl, _∙_, sym, subst}
+use mathlib.Core.Path.{_≡_, sym, subst}
 use mathlib.Core.List.{List, [], _∷_, _++_, append-assoc}
 use native.Mathlib.Omega.{arith}
 use lib.IntN.{ℤ, pos, negsuc}
@@ -15,16 +15,12 @@ use Rattle.figures.proofs.FiguresLaws.{FiguresSmall}
 use Rattle.wire.specs.Signed.{written, figureAt}
 use Rattle.wire.proofs.SignedLaws.{written-figure}
 use Rattle.report.specs.Report.{eight, eights, reported}
+use Rattle.report.proofs.ReportLaws.{length-years}
 use Rattle.reckoner.specs.declared.Ledger.{Ledger}
 use Rattle.figures.specs.Figures.{noFigures}
 use Rattle.reckoner.specs.Ledger.{report}
-use Rattle.reckoner.specs.Calls.{closedBuffer}
-use Rattle.reckoner.proofs.Invariant.{LedgerKept}
-
-length-eights : (l : List Figures) → length (eights l) ≡ 8 * length l
-unfolding eights
-length-eights [] = refl
-length-eights (f ∷ rest) = length-append (eight f) (eights rest) ∙ omega (arith, length-eights rest)
+use Rattle.reckoner.specs.Calls.{closedBuffer, HandedBack}
+use Rattle.reckoner.proofs.Invariant.{LedgerKept, handed-kept}
 
 -- a ledger of n years, closed with a buffer long enough
 module _ (l : Ledger) (k : LedgerKept l) (n : ℕ) (g : l .given ≡ n) (buffer : List ℕ) (h : 64 * n + 32 ≤ length buffer) where
@@ -34,7 +30,7 @@ module _ (l : Ledger) (k : LedgerKept l) (n : ℕ) (g : l .given ≡ n) (buffer 
 
   length-yearly : length yearly ≡ 8 * l .given
   unfolding yearly
-  length-yearly = length-eights (take (l .given) (l .figures)) ∙ rw (length-take-le (l .given) (l .figures) (omega (arith, k .count, k .twenty)))
+  length-yearly = length-years (l .given) (l .figures) (omega (arith, k .count, k .twenty))
 
   -- the other four in their places
   written-closing : closedBuffer l buffer ≡ written (yearly ++ (l .state .total .0 ∷ pos (tonnesOf (l .state .total .0)) ∷ pos (l .state .project .balance .0) ∷ pos (l .state .belt .balance .0) ∷ [])) buffer
@@ -91,8 +87,8 @@ report-fits l k = fit-append (eights (take (l .given) (l .figures))) _
     (fit-eights (take (l .given) (l .figures)) (λ m r. let q : m < l .given = omega (arith, length-take-le (l .given) (l .figures) (omega (arith, k .count, k .twenty))) in rw (getD-take (l .given) (l .figures) m noFigures q) (k .figures m q)))
     (omega (arith, k .total, k .count), (omega (arith, tonnes-le (l .state .total .0), k .total, k .count), (omega (arith, k .project), (omega (arith, k .belt), tt))))
 
--- the i-th number of what closing reports is read back from its eight bytes
-pub report-back : (l : Ledger) → LedgerKept l → (buffer : List ℕ) → 64 * l .given + 32 ≤ length buffer → (i : ℕ) → i < length (report l)
+-- the i-th number of what closing reports is read back from its eight bytes, of any ledger that the calls handed back
+pub report-back : {l : Ledger} → HandedBack l → (buffer : List ℕ) → 64 * l .given + 32 ≤ length buffer → (i : ℕ) → i < length (report l)
     → figureAt (closedBuffer l buffer) (8 * i) ≡ getD (report l) i (pos 0)
 unfolding closedBuffer
-report-back l k buffer h i j = rw (le-ltb (length buffer) (64 * l .given + 32) h) (written-at (report l) (report-fits l k) buffer i j)
+report-back {l} b buffer h i j = rw (le-ltb (length buffer) (64 * l .given + 32) h) (written-at (report l) (report-fits l (handed-kept b)) buffer i j)
