@@ -2,7 +2,7 @@
 -- order; the first fault counts."
 -- Assumes nothing.
 use Prim.Native.Nat.{ℕ, zero, suc, _+_, _-_, _*_}
-use mathlib.Core.Bool.{cond}
+use mathlib.Core.Bool.{Bool, cond}
 use mathlib.Core.List.{List, [], _∷_, _++_}
 use lib.Dec.{ltb, eqb}
 use lib.ListN.{length}
@@ -91,8 +91,11 @@ yearPiece due = do
   give y
 
 -- "buffer under 64 × n + 32 bytes": 10
+abbrev pub tooShort : (n size : ℕ) → Bool
+tooShort n size = ltb size (64 * n + 32)
+
 unfoldable pub bufferNumber : ℕ → ℕ → ℕ
-bufferNumber n size = cond (ltb size (64 * n + 32)) 10 0
+bufferNumber n size = cond (tooShort n size) 10 0
 
 -- "10 comes last": only where the dossier is accepted
 abbrev pub bufferLast : Judged Dossier → ℕ → ℕ

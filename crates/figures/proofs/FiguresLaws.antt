@@ -29,6 +29,7 @@ use Rattle.figures.specs.Figures.{
   reductionOf,
   creditedOf,
   figuresOf,
+  carbonFigures,
 }
 use Rattle.figures.specs.Ranges.{SmallCarbon, SmallYear, SmallTable, SmallGrams}
 
@@ -116,14 +117,10 @@ figures-small reference project activity belt beltReference r p a b br =
       credited = omega (arith, credited-le (reference -ℤ project -ℤ activity -ℤ displaced));
     }
 
--- those that the code makes of a year's carbon and activity
-abbrev pub figuresOfYear : (project belt : YearCarbon) → ℤ → (days yeardays : ℕ) → Figures
-figuresOfYear project belt activity days yeardays =
-    figuresOf (pos (referenceLevel (project .projected .0) days yeardays)) (pos (stockChangeEmissions (project .monitored .0))) activity (pos (stockChangeEmissions (belt .monitored .0))) (pos (referenceLevel (belt .projected .0) days yeardays))
-
+-- those of a year's carbon and activity
 module _ (project belt : YearCarbon) (activity : ℤ) (days yeardays : ℕ) (p : SmallYear project) (b : SmallYear belt) (a : SmallGrams activity) (h : days ≤ yeardays) (positive : 0 < yeardays) where
-  pub year-small : FiguresSmall (figuresOfYear project belt activity days yeardays)
+  pub year-small : FiguresSmall (carbonFigures project belt activity days yeardays)
   year-small = figures-small _ _ activity _ _ (reference-small (p .0) h positive) (emissions-small (p .1)) a (emissions-small (b .1)) (reference-small (b .0) h positive)
 
-  pub credited-small : mag (figuresOfYear project belt activity days yeardays .credited .0) < 2 ^ 56
+  pub credited-small : mag (carbonFigures project belt activity days yeardays .credited .0) < 2 ^ 56
   credited-small = year-small .credited

@@ -9,7 +9,7 @@ ghost use lib.IntN.{pos, negsuc};
 ghost use lib.Signed.{mag};
 ghost use Rattle.classes.specs.Classes.{NF};
 ghost use Rattle.classes.specs.Matrix.{entry, tableOf};
-ghost use Rattle.figures.specs.Figures.{referenceLevel, countedFactor, stockChangeEmissions, displacedEmissions, creditedOf, tonnesOf, noFigures, figuresOf};
+ghost use Rattle.figures.specs.Figures.{referenceLevel, countedFactor, stockChangeEmissions, displacedEmissions, creditedOf, tonnesOf, noFigures, carbonFigures};
 ghost use Rattle.figures.specs.Ranges.{SmallCarbon, SmallYear, SmallGrams};
 
 // The place of class NF.
@@ -145,7 +145,7 @@ pub fn year_figures(
 ) -> Figures
     requires { ⌜ (SmallYear project) × (SmallYear belt) × (SmallGrams (activity .0)) ⌝ }
     requires { ⌜ (days ≤ yeardays) × (0 < yeardays) × (yeardays ≤ 366) ⌝ }
-    ensures { λ r. ⌜ r ≡ figuresOf (pos (referenceLevel (project .projected .0) days yeardays)) (pos (stockChangeEmissions (project .monitored .0))) (activity .0) (pos (stockChangeEmissions (belt .monitored .0))) (pos (referenceLevel (belt .projected .0) days yeardays)) ⌝ }
+    ensures { λ r. ⌜ r ≡ carbonFigures project belt (activity .0) days yeardays ⌝ }
 {
     let reference = reference_level(project.projected, days, yeardays);
     let emitted = stock_change_emissions(project.monitored);

@@ -20,8 +20,7 @@ use Rattle.dossier.proofs.Places.{years-step}
 use Rattle.reckoning.specs.declared.Advanced.{Advanced}
 use Rattle.reckoning.specs.declared.StepAnswer.{StepAnswer}
 use Rattle.reckoning.specs.declared.Stepped.{Stepped}
-use Rattle.reckoning.specs.Step.{yearAdvanced, afterFigures, steppedYear, stepSays, stepInside}
-use Rattle.reckoning.specs.Step as Step
+use Rattle.reckoning.specs.Step.{dueIn, yearAdvanced, afterFigures, steppedYear, stepSays, stepInside}
 use Rattle.reckoner.specs.declared.Ledger.{Ledger}
 use Rattle.reckoner.specs.Ledger.{openedWith, openedLedger, NewlyOpened, termsOf, dueOf, withAdvanced, givenYear, givenYears}
 use Rattle.reckoner.specs.Calls.{yearsToCome, thenNumber, thenBuffer}
@@ -91,11 +90,11 @@ module _ (s : List ℕ) (from : ℕ) (l : Ledger) (at : ℕ) (m : Ledger) (f : S
       go (accepted x t) e = (rw (← all) (e .0), rw (← f .made) (e .1))
 
   module _ (less : m .given < l .state .left) (stocks factors counted matrix : List ℕ) (es : stocks ≡ carbonStocks) (ef : factors ≡ tableOf (emissionFactor stocks)) (ec : counted ≡ tableOf (countedFactor (l .option) (entry factors))) (em : matrix ≡ l .matrix)
-      (r : Stepped) (says : stepSays s r ≡ steppedYear (entry factors) (entry counted) matrix (Step.dueOf (m .state) (m .start .0) (m .beltstart .0)) (m .state) (drop at s)) where
+      (r : Stepped) (says : stepSays s r ≡ steppedYear (entry factors) (entry counted) matrix (dueIn (m .state) (m .start .0) (m .beltstart .0)) (m .state) (drop at s)) where
     same-counted : counted ≡ tableOf (countedFactor (m .option) (entry factors))
     same-counted = rw (f .option) ec
 
-    same-says : stepSays s r ≡ steppedYear (entry factors) (entry counted) (m .matrix) (Step.dueOf (m .state) (m .start .0) (m .beltstart .0)) (m .state) (drop at s)
+    same-says : stepSays s r ≡ steppedYear (entry factors) (entry counted) (m .matrix) (dueIn (m .state) (m .start .0) (m .beltstart .0)) (m .state) (drop at s)
     same-says = rw (f .matrix, ← em) says
 
     some-left : 1 ≤ m .state .left

@@ -23,8 +23,7 @@ use Rattle.cursor.proofs.AtLaws.{bind-no, bind-yes, end-lone, end-beyond, end-h
 use Rattle.reckoning.specs.declared.State.{State}
 use Rattle.reckoning.specs.declared.StepAnswer.{StepAnswer}
 use Rattle.reckoning.specs.declared.Stepped.{Stepped}
-use Rattle.reckoning.specs.Step.{yearAdvanced, steppedYear, stepSays, stepInside}
-use Rattle.reckoning.specs.Step as Step
+use Rattle.reckoning.specs.Step.{dueIn, yearAdvanced, steppedYear, stepSays, stepInside}
 use Rattle.reckoning.proofs.StepLaws.{step-is}
 use Rattle.reckoner.specs.declared.Ledger.{Ledger}
 use Rattle.reckoner.specs.declared.Answer.{Answer}
@@ -80,9 +79,9 @@ left-for due s b y u e = go (eqb (due .left) 0) refl e
 
 -- a step of a ledger from a place of the bytes
 module _ (l : Ledger) (stocks factors counted : List ℕ) (es : stocks ≡ carbonStocks) (ef : factors ≡ tableOf (emissionFactor stocks)) (ec : counted ≡ tableOf (countedFactor (l .option) (entry factors)))
-    (s : List ℕ) (at : ℕ) (r : Stepped) (says : stepSays s r ≡ steppedYear (entry factors) (entry counted) (l .matrix) (Step.dueOf (l .state) (l .start .0) (l .beltstart .0)) (l .state) (drop at s)) where
+    (s : List ℕ) (at : ℕ) (r : Stepped) (says : stepSays s r ≡ steppedYear (entry factors) (entry counted) (l .matrix) (dueIn (l .state) (l .start .0) (l .beltstart .0)) (l .state) (drop at s)) where
   in-terms : stepSays s r ≡ after (year (dueOf l) (drop at s)) (λ y. give (yearAdvanced (termsOf l) y (l .state)))
-  unfolding dueOf termsOf Step.dueOf
+  unfolding dueOf termsOf
   in-terms = says ∙ step-is (termsOf l) factors counted (ef ∙ ap (λ (x : List ℕ). tableOf (emissionFactor x)) es) ec (dueOf l) (l .state) (drop at s)
 
   pub none-given : (n : ℕ) → r .answer ≡ StepAnswer.Refused n → refused n ≡ year (dueOf l) (drop at s)
@@ -93,7 +92,7 @@ module _ (l : Ledger) (stocks factors counted : List ℕ) (es : stocks ≡ carbo
 
 -- a step of a ledger over a whole piece
 module _ (l : Ledger) (stocks factors counted : List ℕ) (es : stocks ≡ carbonStocks) (ef : factors ≡ tableOf (emissionFactor stocks)) (ec : counted ≡ tableOf (countedFactor (l .option) (entry factors)))
-    (s : List ℕ) (r : Stepped) (says : stepSays s r ≡ steppedYear (entry factors) (entry counted) (l .matrix) (Step.dueOf (l .state) (l .start .0) (l .beltstart .0)) (l .state) s) where
+    (s : List ℕ) (r : Stepped) (says : stepSays s r ≡ steppedYear (entry factors) (entry counted) (l .matrix) (dueIn (l .state) (l .start .0) (l .beltstart .0)) (l .state) s) where
   pub year-no : (n : ℕ) → r .answer ≡ StepAnswer.Refused n → record { ledger = l; answer = Answer.Refused n } ≡ yearCall l s
   unfolding yearCall yearPiece
   year-no n e = ap (yearJudged l) (bind-no (year (dueOf l)) _ s n (none-given l stocks factors counted es ef ec s 0 r says n e))

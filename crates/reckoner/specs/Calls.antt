@@ -1,16 +1,16 @@
 -- Document 01, "Calls and sheet": what each call answers, hands back and writes.
 -- Assumes nothing.
-use Prim.Native.Nat.{ℕ, _+_, _*_}
+use Prim.Native.Nat.{ℕ}
 use mathlib.Core.Bool.{cond}
 use mathlib.Core.List.{List, []}
-use lib.Dec.{ltb, eqb}
+use lib.Dec.{eqb}
 use lib.ListN.{length}
 use Rattle.wire.specs.Bytes.{Bytes}
 use Rattle.wire.specs.Signed.{written}
 use Rattle.figures.specs.Year.{Year}
 use Rattle.dossier.specs.Records.{Opening, Dossier}
 use Rattle.dossier.specs.Reader.{Judged, refused, accepted}
-use Rattle.dossier.specs.Judging.{dossier, years, openingPiece, yearPiece, bufferNumber}
+use Rattle.dossier.specs.Judging.{dossier, years, openingPiece, yearPiece, tooShort, bufferNumber}
 use Rattle.reckoner.specs.declared.Ledger.{Ledger}
 use Rattle.reckoner.specs.declared.Answer.{Answer}
 use Rattle.reckoner.specs.declared.Step.{Step}
@@ -40,11 +40,11 @@ yearCall l piece = yearJudged l (yearPiece (dueOf l) piece)
 
 -- "Closing after k years (k may be 0) takes k for n in the buffer's layout and length"; it hands back the ledger it got
 unfoldable pub closeCall : Ledger → ℕ → Step
-closeCall l size = record { ledger = l; answer = cond (ltb size (64 * l .given + 32)) (Answer.Refused 10) Answer.Accepted }
+closeCall l size = record { ledger = l; answer = cond (tooShort (l .given) size) (Answer.Refused 10) Answer.Accepted }
 
 -- the buffer afterwards: the report and the old bytes beyond it, or as it was
 unfoldable pub closedBuffer : Ledger → List ℕ → List ℕ
-closedBuffer l buffer = cond (ltb (length buffer) (64 * l .given + 32)) buffer (written (report l) buffer)
+closedBuffer l buffer = cond (tooShort (l .given) (length buffer)) buffer (written (report l) buffer)
 
 -- "a ledger that these calls handed back"
 pub data HandedBack : Ledger → Type 0 where

@@ -14,7 +14,7 @@ use Rattle.figures.specs.Year.{Terms, Year}
 use Rattle.dossier.specs.Records.{Opening, OpeningInRange, Due, Dossier}
 use Rattle.opening.specs.Answers.{matrixInUse}
 use Rattle.reckoning.specs.declared.Advanced.{Advanced}
-use Rattle.reckoning.specs.Step.{yearAdvanced}
+use Rattle.reckoning.specs.Step.{yearAdvanced, dueIn}
 use Rattle.report.specs.Report.{reported}
 use Rattle.reckoner.specs.declared.Ledger.{Ledger}
 
@@ -54,7 +54,7 @@ unfoldable pub termsOf : Ledger → Terms
 termsOf l = record { option = l .option; matrix = l .matrix; stocks = carbonStocks }
 
 unfoldable pub dueOf : Ledger → Due
-dueOf l = record { nextYear = l .state .year; left = l .state .left; projectTotal = l .start .0; beltTotal = l .beltstart .0 }
+dueOf l = dueIn (l .state) (l .start .0) (l .beltstart .0)
 
 -- a year given: its figures join those of the years before
 abbrev pub withAdvanced : Ledger → Advanced → Ledger

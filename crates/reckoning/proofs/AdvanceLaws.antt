@@ -22,7 +22,8 @@ use Rattle.projection.specs.Projection.{areaTotal, projectedYear, SmallRegion, 
 use Rattle.projection.proofs.ProjectionLaws.{projected-carbon-le}
 use Rattle.figures.specs.declared.Figures.{Figures}
 use Rattle.figures.specs.Ranges.{SmallCarbon, SmallYear, SmallGrams}
-use Rattle.figures.proofs.FiguresLaws.{figuresOfYear, credited-small}
+use Rattle.figures.specs.Figures.{carbonFigures}
+use Rattle.figures.proofs.FiguresLaws.{credited-small}
 use Rattle.reckoning.specs.declared.State.{State}
 use Rattle.reckoning.specs.declared.Advanced.{Advanced}
 use Rattle.reckoning.specs.Step.{afterFigures, summaryFigures, summaryAdvanced}
@@ -40,7 +41,7 @@ days-asked days year yeardays h e = rw e (h, omega (arith, days-range year), ome
 
 module _ (matrix factors : List ℕ) (state : State) (days : ℕ) (p b : CarbonUnits) (a : Grams) (r r′ : Projected) (yeardays : ℕ) (figures : Figures)
     (e : r ≡ projectedYear (entry factors) matrix (state .project)) (e′ : r′ ≡ projectedYear (entry factors) matrix (state .belt)) (ed : yeardays ≡ daysInYear (state .year))
-    (ef : figures ≡ figuresOfYear (record { projected = r .carbon; monitored = p }) (record { projected = r′ .carbon; monitored = b }) (a .0) days yeardays) where
+    (ef : figures ≡ carbonFigures (record { projected = r .carbon; monitored = p }) (record { projected = r′ .carbon; monitored = b }) (a .0) days yeardays) where
   figures-are : figures ≡ summaryFigures (entry factors) matrix (record { year = state .year; days = days; project = p; belt = b; activity = a }) (state .project) (state .belt)
   unfolding summaryFigures projectedYear
   figures-are = ef ∙ rw (e, e′, ed)

@@ -3,7 +3,7 @@
 use Prim.Native.Nat.{ℕ, _+_, _-_, _^_, _≤_, _<_}
 use mathlib.Core.Path.{_≡_}
 use mathlib.Core.List.{List}
-use lib.IntN.{pos, _+ℤ_}
+use lib.IntN.{_+ℤ_}
 use lib.Signed.{mag}
 use lib.ListN.{length, drop}
 use Rattle.classes.specs.Calendar.{daysInYear}
@@ -11,7 +11,7 @@ use Rattle.projection.specs.declared.Region.{Region}
 use Rattle.projection.specs.Projection.{projectedCarbon, projectedRegion, SmallRegion}
 use Rattle.figures.specs.declared.Figures.{Figures}
 use Rattle.figures.specs.Year.{Terms, Year}
-use Rattle.figures.specs.Figures.{referenceLevel, stockChangeEmissions, noFigures, figuresOf}
+use Rattle.figures.specs.Figures.{noFigures, carbonFigures}
 use Rattle.figures.specs.Reckoning.{yearFigures}
 use Rattle.dossier.specs.Records.{Due}
 use Rattle.dossier.specs.Reader.{Judged, refused, accepted, Reader, _>>=_, give}
@@ -38,8 +38,8 @@ yearAdvanced t y state = record { state = afterFigures (t .matrix) (yearFigures 
 -- ---- the same from a year's summary, by tables of factors
 unfoldable pub summaryFigures : (ℕ → ℕ → ℕ) → List ℕ → Summary → (project belt : Region) → Figures
 summaryFigures factor matrix m project belt =
-    figuresOf (pos (referenceLevel (projectedCarbon factor (project .areas) matrix) (m .days) (daysInYear (m .year)))) (pos (stockChangeEmissions (m .project .0))) (m .activity .0) (pos (stockChangeEmissions (m .belt .0)))
-    (pos (referenceLevel (projectedCarbon factor (belt .areas) matrix) (m .days) (daysInYear (m .year))))
+    carbonFigures (record { projected = record { 0 = projectedCarbon factor (project .areas) matrix }; monitored = m .project })
+    (record { projected = record { 0 = projectedCarbon factor (belt .areas) matrix }; monitored = m .belt }) (m .activity .0) (m .days) (daysInYear (m .year))
 
 unfoldable pub summaryAdvanced : (ℕ → ℕ → ℕ) → List ℕ → Summary → State → Advanced
 summaryAdvanced factor matrix m state = record {
@@ -54,8 +54,8 @@ steppedYear factor counted matrix due state = do
   give (summaryAdvanced factor matrix m state)
 
 -- what is due in a state, with the starting areas of project and belt
-unfoldable pub dueOf : State → ℕ → ℕ → Due
-dueOf state project belt = record { nextYear = state .year; left = state .left; projectTotal = project; beltTotal = belt }
+abbrev pub dueIn : State → ℕ → ℕ → Due
+dueIn state project belt = record { nextYear = state .year; left = state .left; projectTotal = project; beltTotal = belt }
 
 -- ---- what a step answers
 abbrev pub stepJudged : List ℕ → Stepped → StepAnswer → Judged Advanced

@@ -13,7 +13,7 @@ ghost use Rattle.classes.specs.Matrix.{entry};
 ghost use Rattle.classes.specs.Calendar.{daysInYear};
 ghost use Rattle.projection.specs.Projection.{RowsWithin, FactorsFit};
 ghost use Rattle.figures.specs.Ranges.{SmallCarbon, SmallGrams};
-ghost use Rattle.reckoning.specs.Step.{summaryAdvanced, dueOf, steppedYear, stepSays, stepInside, SmallState};
+ghost use Rattle.reckoning.specs.Step.{summaryAdvanced, dueIn, steppedYear, stepSays, stepInside, SmallState};
 
 // What years change: the year that is due, the years left, both regions and the total credited.
 pub struct State {
@@ -106,7 +106,7 @@ pub fn step(
     requires { ⌜ RowsWithin (now matrix) ⌝ }
     requires { ⌜ FactorsFit (now factors) ⌝ }
     requires { ⌜ FactorsFit (now counted) ⌝ }
-    ensures { λ r. ⌜ stepSays (now (s .entry)) r ≡ steppedYear (entry (now (factors .entry))) (entry (now (counted .entry))) (now (matrix .entry)) (dueOf state (start .0) (belt .0)) state (drop at (now (s .entry))) ⌝ }
+    ensures { λ r. ⌜ stepSays (now (s .entry)) r ≡ steppedYear (entry (now (factors .entry))) (entry (now (counted .entry))) (now (matrix .entry)) (dueIn state (start .0) (belt .0)) state (drop at (now (s .entry))) ⌝ }
     ensures { λ r. ⌜ stepInside (now (s .entry)) state r ⌝ }
 {
     match years::read_year(s, at, state.year, state.left, start, belt, counted) {

@@ -4,14 +4,13 @@ use lib.ListN.{drop}
 use borrow.Author.Needs.{needs}
 use Rattle.classes.specs.Matrix.{entry}
 use Rattle.years.specs.Answers.{summarizedYear}
-use Rattle.reckoning.specs.Step.{dueOf}
+use Rattle.reckoning.specs.Step.{dueIn}
 use Rattle.reckoning.proofs.StepLaws.{WasRead, year-refused, year-was-read, stepped-no, stepped-yes}
 use Rattle.reckoning.proofs.step.Statement.{statement}
 use Rattle.reckoning.proofs.step.Tie as tie
 
 -- the year that was read
-read : (c : tie.After-known-told2) → WasRead (c .before .before .before .before .before .args .s .now) (c .before .before .before .before .before .args .state .year) (c .before .before .before .before .before .args .state .left) (c .before .days .given .0 .1 .0) (c .before .days .given .0 .1 .1 .0) (c .before .days .given .0 .1 .1 .1 .0) (c .before .days .given .0 .1 .1 .1 .1 .0) (c .before .days .given .0 .1 .1 .1 .1 .1 .0) (summarizedYear (entry (c .before .before .before .before .before .args .counted .now)) (dueOf (c .before .before .before .before .before .args .state) (c .before .before .before .before .before .args .start .0) (c .before .before .before .before .before .args .belt .0)) (drop (c .before .before .before .before .before .args .at) (c .before .before .before .before .before .args .s .now)))
-unfolding dueOf
+read : (c : tie.After-known-told2) → WasRead (c .before .before .before .before .before .args .s .now) (c .before .before .before .before .before .args .state .year) (c .before .before .before .before .before .args .state .left) (c .before .days .given .0 .1 .0) (c .before .days .given .0 .1 .1 .0) (c .before .days .given .0 .1 .1 .1 .0) (c .before .days .given .0 .1 .1 .1 .1 .0) (c .before .days .given .0 .1 .1 .1 .1 .1 .0) (summarizedYear (entry (c .before .before .before .before .before .args .counted .now)) (dueIn (c .before .before .before .before .before .args .state) (c .before .before .before .before .before .args .start .0) (c .before .before .before .before .before .args .belt .0)) (drop (c .before .before .before .before .before .args .at) (c .before .before .before .before .before .args .s .now)))
 read c = year-was-read _ _ _ _ _ _ _ _ _ _ _ (c .before .days .given .1) (c .before .before .before .read-year .ensures .0) (c .before .before .before .read-year .ensures .1 .0) (c .before .before .before .read-year .ensures .1 .1)
 
 read-year-requires : tie.Need-read-year-requires
@@ -30,11 +29,9 @@ advance-requires : tie.Need-advance-requires
 advance-requires c κs = let pre = c .before .before .before .before .before .pre in let r = read c in (pre .1 .0, (pre .1 .1 .0, (pre .1 .1 .1 .0, (r .project, r .belt, r .activity, r .some, r .allowed))))
 
 returns : tie.Need-returns
-unfolding dueOf
 returns c = (stepped-no (entry (c .before .before .before .before .before .before .args .factors .now)) (entry (c .before .before .before .before .before .before .args .counted .now)) (c .before .before .before .before .before .before .args .matrix .now) _ (c .before .before .before .before .before .before .args .state) (drop (c .before .before .before .before .before .before .args .at) (c .before .before .before .before .before .before .args .s .now)) _ (year-refused _ _ _ _ (c .before .before .n .given .1) (c .before .before .before .before .read-year .ensures .0)), rw (c .no-figures .ensures))
 
 returns-2 : tie.Need-returns-2
-unfolding dueOf
 returns-2 c = let r = read (c .before) in (stepped-yes (entry (c .before .before .before .before .before .before .args .factors .now)) (entry (c .before .before .before .before .before .before .args .counted .now)) (c .before .before .before .before .before .before .args .matrix .now) _ (c .before .before .before .before .before .before .args .state) (drop (c .before .before .before .before .before .before .args .at) (c .before .before .before .before .before .before .args .s .now)) _ _ _ (r .says) (c .advance .ensures), r .inside)
 
 pub step-spec : {M : Type 1} → statement M
