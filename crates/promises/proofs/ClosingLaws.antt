@@ -1,7 +1,7 @@
 -- The bytes that closing writes, read back.
 -- Assumes nothing.
 use Prim.Native.Nat.{ℕ, zero, suc, _+_, _*_, _^_, _≤_, _<_}
-use mathlib.Core.Path.{_≡_, sym, subst}
+use mathlib.Core.Path.{_≡_, refl, sym, subst}
 use mathlib.Core.List.{List, [], _∷_, _++_, append-assoc}
 use native.Mathlib.Omega.{arith}
 use lib.IntN.{ℤ, pos, negsuc}
@@ -32,23 +32,29 @@ module _ (l : Ledger) (k : LedgerKept l) (n : ℕ) (g : l .given ≡ n) (buffer 
   unfolding yearly
   length-yearly = length-years (l .given) (l .figures) (omega (arith, k .count, k .twenty))
 
-  -- the other four in their places
-  written-closing : closedBuffer l buffer ≡ written (yearly ++ (l .state .total .0 ∷ pos (tonnesOf (l .state .total .0)) ∷ pos (l .state .project .balance .0) ∷ pos (l .state .belt .balance .0) ∷ [])) buffer
-  unfolding closedBuffer report reported yearly
+  -- the other four: total, tonnes and the two balances
+  four : List ℤ
+  four = l .state .total .0 ∷ pos (tonnesOf (l .state .total .0)) ∷ pos (l .state .project .balance .0) ∷ pos (l .state .belt .balance .0) ∷ []
+
+  written-closing : closedBuffer l buffer ≡ written (yearly ++ four) buffer
+  unfolding closedBuffer report reported yearly four
   written-closing = rw (le-ltb (length buffer) (64 * l .given + 32) (omega arith))
 
+  -- each of the four is read back from its place
+  read-back : (before : List ℤ) (z : ℤ) (after : List ℤ) → four ≡ before ++ (z ∷ after) → mag z < 2 ^ 63 → (at : ℕ) → at ≡ 64 * n + 8 * length before → figureAt (closedBuffer l buffer) at ≡ z
+  read-back before z after e fits at p = rw (written-closing, e, ← append-assoc yearly before (z ∷ after)) (written-figure (yearly ++ before) z after buffer at (simp length-append (omega (arith, length-yearly, p))) fits)
+
   pub total-back : figureAt (closedBuffer l buffer) (64 * n) ≡ l .state .total .0
-  total-back = rw written-closing (written-figure yearly (l .state .total .0) _ buffer _ (omega (arith, length-yearly)) (omega (arith, k .total, k .count)))
+  unfolding four
+  total-back = read-back [] _ _ refl (omega (arith, k .total, k .count)) _ (omega arith)
 
   pub project-back : figureAt (closedBuffer l buffer) (64 * n + 16) ≡ pos (l .state .project .balance .0)
-  project-back = rw (written-closing, ← append-assoc yearly (l .state .total .0 ∷ pos (tonnesOf (l .state .total .0)) ∷ []) (pos (l .state .project .balance .0) ∷ pos (l .state .belt .balance .0) ∷ []))
-      (written-figure (yearly ++ (l .state .total .0 ∷ pos (tonnesOf (l .state .total .0)) ∷ [])) (pos (l .state .project .balance .0)) _ buffer _
-      (simp length-append (omega (arith, length-yearly))) (omega (arith, k .project)))
+  unfolding four
+  project-back = read-back (_ ∷ _ ∷ []) _ _ refl (omega (arith, k .project)) _ refl
 
   pub belt-back : figureAt (closedBuffer l buffer) (64 * n + 24) ≡ pos (l .state .belt .balance .0)
-  belt-back = rw (written-closing, ← append-assoc yearly (l .state .total .0 ∷ pos (tonnesOf (l .state .total .0)) ∷ pos (l .state .project .balance .0) ∷ []) (pos (l .state .belt .balance .0) ∷ []))
-      (written-figure (yearly ++ (l .state .total .0 ∷ pos (tonnesOf (l .state .total .0)) ∷ pos (l .state .project .balance .0) ∷ [])) (pos (l .state .belt .balance .0)) _ buffer _
-      (simp length-append (omega (arith, length-yearly))) (omega (arith, k .belt)))
+  unfolding four
+  belt-back = read-back (_ ∷ _ ∷ _ ∷ []) _ _ refl (omega (arith, k .belt)) _ refl
 
 -- ---- every number of the report
 abbrev Fit : List ℤ → Type 0
