@@ -11,11 +11,10 @@ use Rattle.arithmetic.specs.Sum.{sum}
 use Rattle.arithmetic.specs.Fraction.{Fraction, whole, _×ᶠ_, sumᶠ}
 use Rattle.arithmetic.proofs.SumLaws.{sum-mul, sum-swap, sum2}
 use Rattle.arithmetic.proofs.RatioLaws.{Ratio, ratio-whole, ratio-times, ratio-divided, ratio-sumᶠ, ratio-above}
-use Rattle.classes.specs.declared.AreaUnits.{AreaUnits}
 use Rattle.classes.specs.Classes.{classes}
 use Rattle.classes.specs.Matrix.{entry, million, RowsSum}
 use Rattle.projection.specs.declared.Region.{Region}
-use Rattle.projection.specs.Projection.{area, areaTotal, flow, nextArea, nextAreas, projectedCarbon, lostArea, openedRegion, projectedRegion}
+use Rattle.projection.specs.Projection.{area, areaTotal, flow, nextArea, nextAreas, projectedCarbon, lostArea, projectedRegion}
 use Rattle.projection.proofs.FlowLaws as F
 use Rattle.projection.proofs.ProjectionLaws.{million-pos, next-area, areas-kept}
 use Rattle.assurance.specs.Unrounded.{flowᶠ, carbonᶠ, nextAreasᶠ}
@@ -32,15 +31,14 @@ pub record Follows (y start : ℕ) (region : Region) (areasᶠ : ℕ → Fractio
   pub kept : areaTotal (region .areas) + region .balance .0 ≡ start
   pub small : region .balance .0 ≤ 132 * y
 
-pub opened-follows : (areas : List AreaUnits) → Follows 0 (areaTotal areas) (openedRegion areas) (λ i. whole (pos (area areas i)))
-unfolding openedRegion
-opened-follows areas = record {
+pub opened-follows : (region : Region) → region .balance .0 ≡ 0 → Follows 0 (areaTotal (region .areas)) region (λ i. whole (pos (area (region .areas) i)))
+opened-follows region z = record {
   n = 1;
   n-pos = zero-lt-suc 0;
-  a = λ i. area areas i * 1;
-  ratio = λ i h. ratio-whole (area areas i) 1;
+  a = λ i. area (region .areas) i * 1;
+  ratio = λ i h. ratio-whole (area (region .areas) i) 1;
   below = λ i h. omega arith;
-  total = sum-mul classes (area areas) 1;
+  total = sum-mul classes (area (region .areas)) 1;
   kept = omega arith;
   small = omega arith;
 }

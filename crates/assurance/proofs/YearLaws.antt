@@ -13,7 +13,6 @@ use Rattle.arithmetic.specs.Fraction.{Fraction, whole}
 use Rattle.arithmetic.proofs.RoundingLaws.{ceilDiv-is}
 use Rattle.arithmetic.proofs.RatioLaws.{Ratio, ratio-natural, ratio-times, ratio-divided, ratio-quotient}
 use Rattle.arithmetic.proofs.NearLaws.{Near, near-sum, near-minus, near-positive, near-wider, near-ratio}
-use Rattle.classes.specs.declared.AreaUnits.{AreaUnits}
 use Rattle.classes.specs.Classes.{emissionFactor}
 use Rattle.classes.specs.Matrix.{million, RowsSum}
 use Rattle.classes.specs.Calendar.{daysInYear}
@@ -24,9 +23,11 @@ use Rattle.projection.proofs.ProjectionLaws.{million-pos}
 use Rattle.activity.specs.declared.Activity.{Activity}
 use Rattle.activity.specs.Activity.{numerator, denominator, activityGrams, activityEmissions}
 use Rattle.activity.proofs.ActivityLaws.{denominator-pos}
-use Rattle.figures.specs.Year.{Terms, Year}
+use Rattle.figures.specs.declared.Terms.{Terms}
+use Rattle.figures.specs.declared.State.{State}
+use Rattle.figures.specs.Year.{Year}
 use Rattle.figures.specs.Figures.{referenceLevel, stockChangeEmissions, displacedEmissions, reductionOf, figuresOf}
-use Rattle.figures.specs.Reckoning.{regionReference, tableEmissions, yearFigures, Reckoning, opened, afterYear}
+use Rattle.figures.specs.Reckoning.{regionReference, tableEmissions, yearFigures, afterYear}
 use Rattle.assurance.specs.Unrounded.{Unrounded, openedᶠ, referenceᶠ, emissionsᶠ, activityᶠ, displacedᶠ, reductionᶠ, creditedᶠ, afterYearᶠ}
 use Rattle.assurance.proofs.RegionLaws.{Follows, opened-follows, year-follows, carbon-over, carbon-ratio, carbon-low, carbon-high}
 use Rattle.assurance.proofs.CreditLaws.{creditGap, near-credited}
@@ -77,18 +78,19 @@ near-activity (a ∷ rest) = near-wider (omega arith) (omega arith) (near-sum (n
 -- ---- the year
 
 -- after n years with m activity records in all, by factors of at most G: the reckoning and the unrounded one
-pub record Reckoned (G n m projectStart beltStart : ℕ) (r : Reckoning) (u : Unrounded) : Type 0 where
+pub record Reckoned (G n m projectStart beltStart : ℕ) (r : State) (u : Unrounded) : Type 0 where
   pub project : Follows n projectStart (r .project) (u .project)
   pub belt : Follows n beltStart (r .belt) (u .belt)
-  pub total : Near (r .total) (u .total) 0 (1936 * (G * (n * suc n)) + 2000 * n + 400 * m)
-  pub none : n ≡ 0 → (r .total ≡ pos 0) × (u .total ≡ whole (pos 0))
+  pub total : Near (r .total .0) (u .total) 0 (1936 * (G * (n * suc n)) + 2000 * n + 400 * m)
+  pub none : n ≡ 0 → (r .total .0 ≡ pos 0) × (u .total ≡ whole (pos 0))
 
-pub opened-reckoned : (G : ℕ) (project belt : List AreaUnits) → Reckoned G 0 0 (areaTotal project) (areaTotal belt) (opened project belt) (openedᶠ project belt)
-unfolding opened openedᶠ
-opened-reckoned G project belt = record { project = opened-follows project; belt = opened-follows belt; total = near-ratio 0 0 _ (zero-lt-suc 0) (ratio-natural 0) (omega arith) (omega arith); none = λ h. (refl, refl) }
+pub opened-reckoned : (G : ℕ) (s : State) → s .project .balance .0 ≡ 0 → s .belt .balance .0 ≡ 0 → s .total .0 ≡ pos 0
+    → Reckoned G 0 0 (areaTotal (s .project .areas)) (areaTotal (s .belt .areas)) s (openedᶠ s)
+unfolding openedᶠ
+opened-reckoned G s p b z = record { project = opened-follows (s .project) p; belt = opened-follows (s .belt) b; total = rw z (near-ratio 0 0 _ (zero-lt-suc 0) (ratio-natural 0) (omega arith) (omega arith)); none = λ h. (z, refl) }
 
 module _ (t : Terms) (G : ℕ) (factor-le : (i j : ℕ) → emissionFactor (t .stocks) i j ≤ G) (rows : RowsSum (t .matrix)) where
-  module _ (n m projectStart beltStart : ℕ) (r : Reckoning) (u : Unrounded) (s : Reckoned G n m projectStart beltStart r u) (y : Year) (dD : y .operatingDays ≤ daysInYear (y .year)) where
+  module _ (n m projectStart beltStart : ℕ) (r : State) (u : Unrounded) (s : Reckoned G n m projectStart beltStart r u) (y : Year) (dD : y .operatingDays ≤ daysInYear (y .year)) where
     near-displaced : Near (displacedEmissions (pos (tableEmissions t (y .beltConversions))) (pos (regionReference t y (r .belt)))) (displacedᶠ t y (u .belt)) (500 + 5 * (100 + 484 * (G * suc n))) 0
     unfolding displacedEmissions displacedᶠ
     near-displaced = near-positive (near-minus (near-emissions t (y .beltConversions)) (near-reference t G factor-le rows n beltStart (r .belt) (u .belt) y (s .belt) dD))

@@ -8,7 +8,7 @@ use Rattle.arithmetic.specs.Fraction.{Fraction, _≤ᶠ_, _<ᶠ_, whole, _-ᶠ_
 use Rattle.classes.specs.declared.AreaUnits.{AreaUnits}
 use Rattle.classes.specs.Classes.{classes}
 use Rattle.projection.specs.Projection.{area, areaTotal}
-use Rattle.figures.specs.Reckoning.{Reckoning}
+use Rattle.figures.specs.declared.State.{State}
 use Rattle.assurance.specs.Unrounded.{Unrounded}
 
 -- of project area and belt alike, after y accepted years from a starting area: the twelve projected areas and the balance make up the starting
@@ -24,7 +24,7 @@ pub record TotalAssured (n m : ℕ) (total : ℤ) (unrounded : Fraction) : Type 
   pub gap : 0 < n → (unrounded -ᶠ whole total) ×ᶠ 5 <ᶠ whole (pos (261576 * (n * (n + 1)) + 21 * n + 4 * m))
   pub none : n ≡ 0 → (total ≡ pos 0) × (unrounded ≡ whole (pos 0))
 
-pub record Assured (n m projectStart beltStart : ℕ) (r : Reckoning) (u : Unrounded) : Type 0 where
-  pub project : RegionAssured n projectStart (r .project .areas) (r .project .balance .0) (u .project)
-  pub belt : RegionAssured n beltStart (r .belt .areas) (r .belt .balance .0) (u .belt)
-  pub total : TotalAssured n m (r .total) (u .total)
+pub record Assured (n m projectStart beltStart : ℕ) (s : State) (u : Unrounded) : Type 0 where
+  pub project : RegionAssured n projectStart (s .project .areas) (s .project .balance .0) (u .project)
+  pub belt : RegionAssured n beltStart (s .belt .areas) (s .belt .balance .0) (u .belt)
+  pub total : TotalAssured n m (s .total .0) (u .total)

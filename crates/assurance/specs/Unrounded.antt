@@ -5,7 +5,6 @@ use mathlib.Core.List.{List, [], _∷_}
 use lib.Dec.{lit<}
 use lib.IntN.{pos}
 use Rattle.arithmetic.specs.Fraction.{Fraction, whole, _+ᶠ_, _-ᶠ_, _×ᶠ_, _÷ᶠ_by_, ifPositive, sumᶠ}
-use Rattle.classes.specs.declared.AreaUnits.{AreaUnits}
 use Rattle.classes.specs.Classes.{classes, emissionFactor}
 use Rattle.classes.specs.Matrix.{entry, million}
 use Rattle.classes.specs.Calendar.{daysInYear}
@@ -14,7 +13,9 @@ use Rattle.activity.specs.declared.Activity.{Activity}
 use Rattle.activity.specs.Activity.{numerator, denominator}
 use Rattle.activity.proofs.ActivityLaws.{denominator-pos}
 use Rattle.classes.proofs.CalendarLaws.{divisor-pos}
-use Rattle.figures.specs.Year.{Terms, Year}
+use Rattle.figures.specs.declared.Terms.{Terms}
+use Rattle.figures.specs.declared.State.{State}
+use Rattle.figures.specs.Year.{Year}
 use Rattle.figures.specs.Figures.{monitoredCarbon, countedFactor}
 
 -- its state: twelve fractions for the project and twelve for the belt, by class, and a total
@@ -23,9 +24,9 @@ pub record Unrounded : Type 0 where
   pub belt : ℕ → Fraction
   pub total : Fraction
 
--- they start as the areas of PA and DA, and 0
-unfoldable pub openedᶠ : (project belt : List AreaUnits) → Unrounded
-openedᶠ project belt = record { project = λ i. whole (pos (area project i)); belt = λ i. whole (pos (area belt i)); total = whole (pos 0) }
+-- they start as the areas of the opened state, those of PA and DA, and 0
+unfoldable pub openedᶠ : State → Unrounded
+openedᶠ s = record { project = λ i. whole (pos (area (s .project .areas) i)); belt = λ i. whole (pos (area (s .belt .areas) i)); total = whole (pos 0) }
 
 -- flow i to j = area i × probability ÷ 1,000,000
 unfoldable pub flowᶠ : (ℕ → Fraction) → List ℕ → ℕ → ℕ → Fraction

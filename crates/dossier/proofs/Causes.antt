@@ -12,7 +12,7 @@ use Rattle.dossier.specs.Marks.{FU, VE, NI, YR, EN}
 use Rattle.dossier.specs.Records.{Due, next}
 use Rattle.dossier.specs.Reader.{_>>=_, give, is, within}
 use Rattle.dossier.specs.JudgingRecords.{head, areas, rows, matrix, matrixUnder, conversions, fuel, vehicles, nitrogen, lime, activityMark, activity}
-use Rattle.dossier.specs.Judging.{opening, run, activities, noneLeft, yearDue, year, end, years, dossier, openingPiece, yearPiece}
+use Rattle.dossier.specs.Judging.{opening, run, activities, noneLeft, yearRecords, yearLeft, year, end, years, dossier, openingPiece, yearPiece}
 use Rattle.dossier.proofs.Refusals.{Numbered}
 use Rattle.dossier.proofs.CauseSteps.{bind, seq, choice, given, refusal, marks, begins, a-field, some-fields, withins, equals, nothings, piece-ends}
 
@@ -72,10 +72,10 @@ unfolding noneLeft
 none-lefts = seq (begins _ _) (refusal _ (omega arith))
 
 a-year : (due : Due) → Numbered (year due)
-unfolding year yearDue activities
-a-year due = go (eqb (due .left) 0)
+unfolding year yearLeft yearRecords activities
+a-year due = go (eqb (due .state .left) 0)
   where
-    go : (b : Bool) → Numbered (cond b noneLeft (yearDue due))
+    go : (b : Bool) → Numbered (cond b noneLeft (yearRecords (due .state .year) (due .terms .start .0) (due .terms .beltstart .0)))
     go true = none-lefts
     go false =
         seq (begins _ _) (bind (a-field _) (λ y. bind (a-field _) (λ d.
@@ -85,7 +85,7 @@ a-year due = go (eqb (due .left) 0)
 some-years : (k : ℕ) (due : Due) (before : List Year) → Numbered (years k due before)
 unfolding years end
 some-years zero due before = seq (choice (is YR) none-lefts (seq (marks EN) nothings)) (given before)
-some-years (suc k) due before = bind (a-year due) (λ y. some-years k (next due) (before ++ (y ∷ [])))
+some-years (suc k) due before = bind (a-year due) (λ y. some-years k (next y due) (before ++ (y ∷ [])))
 
 pub dossier-causes : Numbered dossier
 unfolding dossier

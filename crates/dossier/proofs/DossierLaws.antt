@@ -8,9 +8,10 @@ use native.Mathlib.Omega.{arith}
 use lib.Dec.{lit<}
 use lib.ListN.{length}
 use Rattle.figures.specs.Year.{Year}
+use Rattle.figures.specs.Reckoning.{afterYear}
 use Rattle.wire.specs.Bytes.{Bytes, bytes, joined}
 use Rattle.dossier.specs.Marks.{YR, EN}
-use Rattle.dossier.specs.Records.{Opening, OpeningInRange, openingBytes, Due, settled, next, DueInRange, YearInRange, yearBytes, YearsInRange, Dossier, DossierInRange, dossierBytes}
+use Rattle.dossier.specs.Records.{Opening, OpeningInRange, openingBytes, termsOf, stateOf, Due, settled, next, DueInRange, YearInRange, yearBytes, YearsInRange, Dossier, DossierInRange, dossierBytes}
 use Rattle.dossier.specs.Reader.{accepted, after, _>>=_, _>>_, give, mark, is, stands, upon, nothing}
 use Rattle.dossier.specs.JudgingRecords.{activityMark}
 use Rattle.dossier.specs.Judging.{opening, noneLeft, year, end, years, dossier, openingPiece, yearPiece}
@@ -53,20 +54,20 @@ years-over (y ∷ l) t = unfold activityMark in rw years-cons (year-begins activ
 
 -- the next k years can be said in YR's 16 bits
 pub record Room (k : ℕ) (due : Due) : Type 0 where
-  pub nextYears : due .nextYear + k ≤ 65536
-  pub projectTotal : due .projectTotal ≤ 1000000000000
-  pub beltTotal : due .beltTotal ≤ 1000000000000
+  pub years : due .state .year + k ≤ 65536
+  pub start : due .terms .start .0 ≤ 1000000000000
+  pub beltstart : due .terms .beltstart .0 ≤ 1000000000000
 
 pub room-due : {k : ℕ} (due : Due) → Room (suc k) due → DueInRange due
-room-due due r = record { nextYear = omega arith; projectTotal = r .projectTotal; beltTotal = r .beltTotal }
+room-due due r = record { year = omega arith; start = r .start; beltstart = r .beltstart }
 
-pub room-next : {k : ℕ} (due : Due) → Room (suc k) due → Room k (next due)
-unfolding next
-room-next due r = record { nextYears = omega arith; projectTotal = r .projectTotal; beltTotal = r .beltTotal }
+pub room-next : {k : ℕ} (y : Year) (due : Due) → Room (suc k) due → Room k (next y due)
+unfolding next afterYear
+room-next y due r = record { years = omega arith; start = r .start; beltstart = r .beltstart }
 
 pub room-opening : (o : Opening) → OpeningInRange o → (k : ℕ) → k ≤ o .head .years → Room k (settled o)
-unfolding settled
-room-opening o p k h = record { nextYears = omega (arith, p .head); projectTotal = omega (arith, p .projectAreas .totals); beltTotal = omega (arith, p .beltAreas .totals) }
+unfolding settled termsOf stateOf
+room-opening o p k h = record { years = omega (arith, p .head); start = omega (arith, p .projectAreas .totals); beltstart = omega (arith, p .beltAreas .totals) }
 
 years-reads : (k : ℕ) (due : Due) → Room k due → (before l : List Year) → length l ≡ k → YearsInRange due l → years k due before (yearsBytes l ++ []) ≡ accepted (before ++ l) []
 unfolding years give _>>=_ _>>_
@@ -75,7 +76,7 @@ years-reads zero due r before (y ∷ l) n p = absurd (omega arith)
 years-reads (suc k) due r before [] n p = absurd (omega arith)
 years-reads (suc k) due r before (y ∷ l) n p =
     rw (years-cons y l [], year-exact due (room-due due r) .reads y (yearsBytes l ++ []) tt (p .0, years-over l []))
-    (years-reads k (next due) (room-next due r) (before ++ (y ∷ [])) l (omega arith) (p .1) ∙ rw append-assoc)
+    (years-reads k (next y due) (room-next y due r) (before ++ (y ∷ [])) l (omega arith) (p .1) ∙ rw append-assoc)
 
 -- more was read after before, then EN, and nothing follows
 record Given (k : ℕ) (due : Due) (before : List Year) (s : List ℕ) (all : List Year) (t : List ℕ) : Type 0 where
@@ -93,7 +94,7 @@ years-none due before s all u t e n q =
     record { more = []; whole = sym (was q .0) ∙ sym (append-nil before); count = refl; each = tt; over = z; encoded = e ∙ rw (z, append-nil) }
 
 years-more : (k : ℕ) (due : Due) (before : List Year) (s : List ℕ) (y : Year) (u : List ℕ) (all : List Year) (t : List ℕ) → YearInRange due y → s ≡ yearBytes y ++ u
-    → Given k (next due) (before ++ (y ∷ [])) u all t → Given (suc k) due before s all t
+    → Given k (next y due) (before ++ (y ∷ [])) u all t → Given (suc k) due before s all t
 years-more k due before s y u all t p e r = record {
   more = y ∷ r .more;
   whole = r .whole ∙ append-assoc before (y ∷ []) (r .more);
@@ -111,10 +112,10 @@ years-only zero due r before s bs all t q =
     let e = end-only s bs (f .2) in
     years-none due before s all (f .1) t (e .0) (e .1) (f .3)
 years-only (suc k) due r before s bs all t q =
-    let f = step (year due s) (λ y. years k (next due) (before ++ (y ∷ []))) q in
+    let f = step (year due s) (λ y. years k (next y due) (before ++ (y ∷ []))) q in
     let x = year-exact due (room-due due r) .only s bs (omega arith) (f .0) (f .1) (f .2) in
     let b = bytes-after (yearBytes (f .0)) (f .1) (rw (x .2) at bs) in
-    years-more k due before s (f .0) (f .1) all t (x .1 .0) (x .2) (years-only k (next due) (room-next due r) (before ++ (f .0 ∷ [])) (f .1) b all t (f .3))
+    years-more k due before s (f .0) (f .1) all t (x .1 .0) (x .2) (years-only k (next (f .0) due) (room-next (f .0) due r) (before ++ (f .0 ∷ [])) (f .1) b all t (f .3))
 
 -- n years in range, EN, and nothing after it
 abbrev pub YearsThen : ℕ → Due → List Year → List ℕ → Type 0

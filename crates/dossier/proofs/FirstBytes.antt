@@ -17,7 +17,7 @@ use Rattle.dossier.specs.Marks.{FU, VE, NI, YR, EN}
 use Rattle.dossier.specs.Records.{Due, next, Dossier}
 use Rattle.dossier.specs.Reader.{Judged, refused, accepted, Reader, _>>=_, _>>_, give, is, begin}
 use Rattle.dossier.specs.JudgingRecords.{head, areas, rows, matrix, matrixUnder, conversions, fuel, vehicles, nitrogen, lime, activityMark, activity}
-use Rattle.dossier.specs.Judging.{opening, run, activities, noneLeft, yearDue, year, end, years, dossier, callNumber}
+use Rattle.dossier.specs.Judging.{opening, run, activities, noneLeft, yearRecords, yearLeft, year, end, years, dossier, callNumber}
 use Rattle.wire.proofs.BytesLaws.{bytes-take}
 use Rattle.dossier.proofs.OpeningLaws.{opening-exact}
 use Rattle.dossier.proofs.Longest.{longest}
@@ -97,10 +97,10 @@ unfolding noneLeft
 none-lefts = a-record _ (more (refusal 6) (omega arith))
 
 a-year : (due : Due) → Settles 3216 (year due)
-unfolding year yearDue activities
-a-year due = go (eqb (due .left) 0)
+unfolding year yearLeft yearRecords activities
+a-year due = go (eqb (due .state .left) 0)
   where
-    go : (b : Bool) → Settles 3216 (cond b noneLeft (yearDue due))
+    go : (b : Bool) → Settles 3216 (cond b noneLeft (yearRecords (due .state .year) (due .terms .start .0) (due .terms .beltstart .0)))
     go true = more none-lefts (omega arith)
     go false =
         begins _ (bind (a-field 2) (λ y. bind (a-field 2) (λ d. seq (equals _ _ _) (seq (withins _ _ _ _)
@@ -110,7 +110,7 @@ a-year due = go (eqb (due .left) 0)
 some-years : (k : ℕ) (due : Due) (before : List Year) → Settles (k * 3216 + 6) (years k due before)
 unfolding years end
 some-years zero due before = seq (choice (is YR) none-lefts (more (seq (marks EN) nothings) (omega arith)) (omega arith)) (given before)
-some-years (suc k) due before = more (bind (a-year due) (λ y. some-years k (next due) (before ++ (y ∷ [])))) (omega arith)
+some-years (suc k) due before = more (bind (a-year due) (λ y. some-years k (next y due) (before ++ (y ∷ [])))) (omega arith)
 
 -- 780 + 20 × 3,216 + 6 bytes, for an opening read from bytes has at most 20 years
 dossier-alike : (s t : List ℕ) → Bytes s → 65106 ≤ length s → dossier (s ++ t) ≡ andLeft t (dossier s)

@@ -1,6 +1,6 @@
 -- "The longest dossier is 65,062 bytes."
 -- Assumes nothing.
-use Prim.Native.Nat.{ℕ, zero, suc, _*_, _%_, _≤_}
+use Prim.Native.Nat.{ℕ, zero, suc, _+_, _*_, _%_, _≤_}
 use mathlib.Core.Path.{_≡_, refl, sym}
 use mathlib.Core.Bool.{Bool, true, false, cond}
 use mathlib.Core.Option.{Option, none, some}
@@ -17,8 +17,9 @@ use Rattle.activity.specs.declared.Activity.{Activity}
 use Rattle.activity.specs.declared.Activity.the-variants.{Fuel, Vehicles, Nitrogen, Lime}
 use Rattle.activity.specs.Activity.{ActivitiesInRange}
 use Rattle.figures.specs.Year.{Year}
+use Rattle.figures.specs.Reckoning.{afterYear}
 use Rattle.wire.specs.Bytes.{Bytes, bytes, bytesOfEach, joined, total}
-use Rattle.dossier.specs.Records.{headBytes, areasBytes, matrixBytes, MatrixUnder, Opening, OpeningInRange, optionBytes, openingBytes, Due, settled, next, conversionsBytes, activityBytes, YearInRange, yearBytes, YearsInRange, Dossier, DossierInRange, dossierBytes}
+use Rattle.dossier.specs.Records.{headBytes, areasBytes, matrixBytes, MatrixUnder, Opening, OpeningInRange, optionBytes, openingBytes, termsOf, stateOf, Due, settled, next, conversionsBytes, activityBytes, YearInRange, yearBytes, YearsInRange, Dossier, DossierInRange, dossierBytes}
 use Rattle.dossier.specs.Reader.{accepted}
 use Rattle.dossier.specs.Judging.{dossier}
 use Rattle.wire.proofs.BytesLaws.{length-bytes, length-each}
@@ -51,7 +52,7 @@ unfolding joined
 years-length due [] p = omega arith
 years-length due (y ∷ l) p =
     let h = year-length due y (p .0) in
-    let k = years-length (next due) l (p .1) in
+    let k = years-length (next y due) l (p .1) in
     simp length-append (omega arith)
 
 option-length : (option : ℕ) (m : Option (List ℕ)) → MatrixUnder option m → length (optionBytes m) ≤ 578
@@ -92,7 +93,7 @@ longestYear y = record {
 
 abbrev longestYears : ℕ → ℕ → List Year
 longestYears zero y = []
-longestYears (suc k) y = longestYear y ∷ longestYears k (suc y)
+longestYears (suc k) y = longestYear y ∷ longestYears k (y + 1)
 
 abbrev pub longestDossier : Dossier
 longestDossier = record {
@@ -119,20 +120,21 @@ days-some y = go (eqb (y % 400) 0) (eqb (y % 100) 0) (eqb (y % 4) 0)
     go false false true = lit≤ tt
     go false false false = lit≤ tt
 
-longest-years : (k : ℕ) (due : Due) → due .left ≡ k → due .projectTotal ≡ 1 → due .beltTotal ≡ 0 → YearsInRange due (longestYears k (due .nextYear))
-unfolding next total
+longest-years : (k : ℕ) (due : Due) → due .state .left ≡ k → due .terms .start .0 ≡ 1 → due .terms .beltstart .0 ≡ 0
+    → YearsInRange due (longestYears k (due .state .year))
+unfolding next afterYear total
 longest-years zero due l p b = tt
 longest-years (suc k) due l p b = (
   record {
     left = omega arith;
     year = refl;
-    days = omega (arith, days-some (due .nextYear));
+    days = omega (arith, days-some (due .state .year));
     conversions = record { count = refl; totals = sym p };
     beltConversions = record { count = refl; totals = sym b };
     count = lit≤ tt;
     activities = all-alike 60;
   },
-  longest-years k (next due) (omega arith) p b,
+  longest-years k (next (longestYear (due .state .year)) due) (omega arith) p b,
 )
 
 pub longest-accepted : (dossier (dossierBytes longestDossier) ≡ accepted longestDossier []) × (length (dossierBytes longestDossier) ≡ 65062)
@@ -147,7 +149,7 @@ longest-accepted = (dossier-accepted .complete longestDossier in-range, size)
     }
 
     in-range : DossierInRange longestDossier
-    in-range = unfold settled total in record { opening = opened; count = refl; years = longest-years 20 (settled (longestDossier .opening)) refl refl refl }
+    in-range = unfold settled termsOf stateOf total in record { opening = opened; count = refl; years = longest-years 20 (settled (longestDossier .opening)) refl refl refl }
 
     size : length (dossierBytes longestDossier) ≡ 65062
     size = unfold listed deforestationProbabilities optionOne optionOneMatrix bytes bytesOfEach joined headBytes areasBytes matrixBytes optionBytes openingBytes conversionsBytes activityBytes yearBytes dossierBytes in refl

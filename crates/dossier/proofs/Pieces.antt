@@ -22,7 +22,7 @@ years-given : (k : ℕ) (due : Due) → Room k due → (l : List Year) → lengt
 years-given k due r [] n p = tt
 years-given zero due r (y ∷ l) n p = absurd (omega arith)
 years-given (suc k) due r (y ∷ l) n p =
-    (year-accepted due (room-due due r) .complete y (p .0), years-given k (next due) (room-next due r) l (omega arith) (p .1))
+    (year-accepted due (room-due due r) .complete y (p .0), years-given k (next y due) (room-next y due r) l (omega arith) (p .1))
 
 -- year pieces accepted one after the other are the bytes of years in range
 given-years : (k : ℕ) (due : Due) → Room k due → (pieces : List (List ℕ)) (l : List Year) (t : List ℕ) → Bytes (joined pieces ++ t) → length pieces ≡ k → YearPieces due pieces l
@@ -36,7 +36,7 @@ given-years (suc k) due r (q ∷ pieces) (y ∷ l) t b n p =
     let b′ : Bytes (q ++ (joined pieces ++ t)) = rw append-assoc at b in
     let x = year-accepted due (room-due due r) .sound q (bytes-before q (joined pieces ++ t) b′) y [] (p .0) in
     let f : q ≡ yearBytes y = x .1 in
-    let i = given-years k (next due) (room-next due r) pieces l t (bytes-after q (joined pieces ++ t) b′) (omega arith) (p .1) in
+    let i = given-years k (next y due) (room-next y due r) pieces l t (bytes-after q (joined pieces ++ t) b′) (omega arith) (p .1) in
     ((x .0, i .0), ap suc (i .1), λ j. f j ∷ i .2 j)
 
 -- bytes are accepted as the dossier d just where they are an opening piece, n year pieces and EN, accepted with d's records
@@ -79,4 +79,4 @@ first-years zero due pieces l p = tt
 first-years (suc y) due [] [] p = tt
 first-years (suc y) due [] (z ∷ l) p = absurd p
 first-years (suc y) due (q ∷ pieces) [] p = absurd p
-first-years (suc y) due (q ∷ pieces) (z ∷ l) p = (p .0, first-years y (next due) pieces l (p .1))
+first-years (suc y) due (q ∷ pieces) (z ∷ l) p = (p .0, first-years y (next z due) pieces l (p .1))

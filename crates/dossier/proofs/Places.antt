@@ -26,14 +26,14 @@ use Rattle.dossier.proofs.DossierLaws.{Room, room-due, room-next, room-
 -- what is settled after years
 pub dueAfter : List Year → Due → Due
 dueAfter [] due = due
-dueAfter (y ∷ l) due = dueAfter l (next due)
+dueAfter (y ∷ l) due = dueAfter l (next y due)
 
 next-over : (l : List Year) (t : List ℕ) → Over t → Over (joined (map yearBytes l) ++ t)
 unfolding joined activityMark
 next-over [] t o = o
 next-over (y ∷ l) t o = rw append-assoc (year-begins activityMark y (joined (map yearBytes l) ++ t))
 
-pub years-step : (k : ℕ) (due : Due) (before : List Year) (s : List ℕ) {y : Year} {u : List ℕ} → year due s ≡ accepted y u → years (suc k) due before s ≡ years k (next due) (before ++ (y ∷ [])) u
+pub years-step : (k : ℕ) (due : Due) (before : List Year) (s : List ℕ) {y : Year} {u : List ℕ} → year due s ≡ accepted y u → years (suc k) due before s ≡ years k (next y due) (before ++ (y ∷ [])) u
 unfolding years _>>=_
 years-step k due before s e = rw e
 
@@ -46,9 +46,9 @@ years-continue (y ∷ l) k zero e due r before t p o = absurd (omega arith)
 years-continue (y ∷ l) k (suc n) e due r before t p o =
     let u = joined (map yearBytes l) ++ t in
     let x = year-exact due (room-due due r) .reads y u tt (p .0, next-over l t o) in
-    let i = years-continue l k n (omega arith) (next due) (room-next due r) (before ++ (y ∷ [])) t (p .1) o in
+    let i = years-continue l k n (omega arith) (next y due) (room-next y due r) (before ++ (y ∷ [])) t (p .1) o in
     let a = append-assoc before (y ∷ []) l in
-    rw append-assoc (years-step n due before (yearBytes y ++ u) x ∙ i ∙ ap (λ (m : List Year). years k (dueAfter l (next due)) m t) a)
+    rw append-assoc (years-step n due before (yearBytes y ++ u) x ∙ i ∙ ap (λ (m : List Year). years k (dueAfter l (next y due)) m t) a)
 
 module _ (o : Opening) (p : OpeningInRange o) (l : List Year) (q : YearsInRange (settled o) l) where
   -- the bytes of the opening and of the years, and t after them

@@ -15,7 +15,7 @@ use Rattle.dossier.specs.Marks.{YR, EN}
 use Rattle.dossier.specs.Records.{Due, Dossier}
 use Rattle.dossier.specs.Reader.{refused, accepted, Reader, after, _>>=_, _>>_, refuse, mark, stands, is, upon, present, begin, nothing, endOfPiece}
 use Rattle.dossier.specs.JudgingRecords.{activityMark}
-use Rattle.dossier.specs.Judging.{run, activities, noneLeft, yearDue, year, end, dossier, bufferNumber, callNumber}
+use Rattle.dossier.specs.Judging.{run, activities, noneLeft, yearRecords, yearLeft, year, end, dossier, bufferNumber, callNumber}
 use Rattle.dossier.proofs.ReaderLaws.{no, was, mark-yes, stands-bytes}
 
 -- the causes of bytes have the numbers 1 to 9
@@ -63,8 +63,8 @@ pub none-left : {A : Type 0} (t : List ℕ) → noneLeft {A = A} (bytes 2 YR ++ 
 unfolding noneLeft begin present _>>_
 none-left t = rw (mark-yes YR t (lit< tt)) (cut-or _ (ltb (length t) 4) t)
 
-pub year-none-left : (due : Due) (t : List ℕ) → due .left ≡ 0 → year due (bytes 2 YR ++ t) ≡ refused (cond (ltb (length t) 4) 1 6)
-unfolding year
+pub year-none-left : (due : Due) (t : List ℕ) → due .state .left ≡ 0 → year due (bytes 2 YR ++ t) ≡ refused (cond (ltb (length t) 4) 1 6)
+unfolding year yearLeft
 year-none-left due t h = rw (eq-eqb _ _ h) (none-left t)
 
 pub end-none-left : (t : List ℕ) → end (bytes 2 YR ++ t) ≡ refused (cond (ltb (length t) 4) 1 6)
@@ -73,18 +73,18 @@ end-none-left t = rw (stands-bytes (is YR) YR t (lit< tt)) (none-left t)
 
 -- where a year is due: 1 where the bytes end before or inside its mark, 2 for any other mark, so for EN "before n years"
 pub year-short : (due : Due) (s : List ℕ) → length s < 2 → year due s ≡ refused 1
-unfolding year yearDue noneLeft
-year-short due s h = go (eqb (due .left) 0)
+unfolding year yearLeft yearRecords noneLeft
+year-short due s h = go (eqb (due .state .left) 0)
   where
-    go : (b : Bool) → cond b noneLeft (yearDue due) s ≡ refused 1
+    go : (b : Bool) → cond b noneLeft (yearRecords (due .state .year) (due .terms .start .0) (due .terms .beltstart .0)) s ≡ refused 1
     go true = first-fault′ _ _ s 1 (begin-short YR 4 s h)
     go false = first-fault′ _ _ s 1 (begin-short YR 4 s h)
 
 pub year-other : (due : Due) (s : List ℕ) → 2 ≤ length s → (number (take 2 s) ≡ YR → ⊥) → year due s ≡ refused 2
-unfolding year yearDue noneLeft
-year-other due s h f = go (eqb (due .left) 0)
+unfolding year yearLeft yearRecords noneLeft
+year-other due s h f = go (eqb (due .state .left) 0)
   where
-    go : (b : Bool) → cond b noneLeft (yearDue due) s ≡ refused 2
+    go : (b : Bool) → cond b noneLeft (yearRecords (due .state .year) (due .terms .start .0) (due .terms .beltstart .0)) s ≡ refused 2
     go true = first-fault′ _ _ s 2 (begin-other YR 4 s h f)
     go false = first-fault′ _ _ s 2 (begin-other YR 4 s h f)
 

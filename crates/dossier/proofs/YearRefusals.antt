@@ -15,7 +15,7 @@ use Rattle.dossier.specs.Marks.{YR, CP}
 use Rattle.dossier.specs.Records.{Due}
 use Rattle.dossier.specs.Reader.{refused, Reader, _>>=_, _>>_, begin, field, within, equal}
 use Rattle.dossier.specs.JudgingRecords.{conversions}
-use Rattle.dossier.specs.Judging.{yearDue, year}
+use Rattle.dossier.specs.Judging.{yearRecords, yearLeft, year}
 use Rattle.wire.proofs.BytesLaws.{length-bytes, take-bytes, drop-bytes}
 use Rattle.dossier.proofs.ReaderLaws.{begin-yes, within-yes, within-above, equal-yes}
 use Rattle.dossier.proofs.Refusals.{first-fault′, begin-short, begin-other}
@@ -40,28 +40,28 @@ year-fields k y days t hy hd =
     let l : 4 ≤ length (bytes 2 y ++ (bytes 2 days ++ t)) = simp (length-append, length-bytes) (omega arith) in
     rw (append-nil, begin-yes YR 4 _ (lit< tt) l, take-bytes 2 y (bytes 2 days ++ t) hy, drop-bytes) (rw (take-bytes 2 days t hd, drop-bytes))
 
-module _ (due : Due) (y days : ℕ) (t : List ℕ) (left : 1 ≤ due .left) (hy : y < 65536) (hd : days < 65536) where
-  left-some : due .left ≡ 0 → ⊥
+module _ (due : Due) (y days : ℕ) (t : List ℕ) (left : 1 ≤ due .state .left) (hy : y < 65536) (hd : days < 65536) where
+  left-some : due .state .left ≡ 0 → ⊥
   left-some z = omega arith
 
   -- "year not the next"
-  pub year-wrong : (y ≡ due .nextYear → ⊥) → year due (yearRecord y days t) ≡ refused 6
-  unfolding year yearDue _>>_ equal
+  pub year-wrong : (y ≡ due .state .year → ⊥) → year due (yearRecord y days t) ≡ refused 6
+  unfolding year yearLeft yearRecords _>>_ equal
   year-wrong h = rw (ne-eqb _ _ left-some) (year-fields _ y days t hy hd ∙ simp (ne-eqb _ _ h))
 
   -- "or d wrong": beyond the days of that Gregorian year, as 366 in 2100
-  pub days-wrong : y ≡ due .nextYear → daysInYear y < days → year due (yearRecord y days t) ≡ refused 6
-  unfolding year yearDue _>>_
+  pub days-wrong : y ≡ due .state .year → daysInYear y < days → year due (yearRecord y days t) ≡ refused 6
+  unfolding year yearLeft yearRecords _>>_
   days-wrong e h =
       rw (ne-eqb _ _ left-some) (year-fields _ y days t hy hd ∙ rw (equal-yes _ _ _ t e) (first-fault′ (within _ _ _ _) _ t 6 (within-above _ _ _ _ t (omega arith))))
 
-  year-begun : (n : ℕ) → y ≡ due .nextYear → Within 1 days (daysInYear y) → begin CP 1152 t ≡ refused n → year due (yearRecord y days t) ≡ refused n
-  unfolding year yearDue conversions _>>=_ _>>_
+  year-begun : (n : ℕ) → y ≡ due .state .year → Within 1 days (daysInYear y) → begin CP 1152 t ≡ refused n → year due (yearRecord y days t) ≡ refused n
+  unfolding year yearLeft yearRecords conversions _>>=_ _>>_
   year-begun n e d f = rw (ne-eqb _ _ left-some) (year-fields _ y days t hy hd ∙ rw (equal-yes _ _ _ t e, within-yes _ _ _ _ t d, f))
 
   -- "Last year's table taken where CP is missing: it is 2, or 1 where the bytes end there"
-  pub no-table : y ≡ due .nextYear → Within 1 days (daysInYear y) → 2 ≤ length t → (number (take 2 t) ≡ CP → ⊥) → year due (yearRecord y days t) ≡ refused 2
+  pub no-table : y ≡ due .state .year → Within 1 days (daysInYear y) → 2 ≤ length t → (number (take 2 t) ≡ CP → ⊥) → year due (yearRecord y days t) ≡ refused 2
   no-table e d h f = year-begun 2 e d (begin-other CP 1152 t h f)
 
-  pub no-table-end : y ≡ due .nextYear → Within 1 days (daysInYear y) → length t < 2 → year due (yearRecord y days t) ≡ refused 1
+  pub no-table-end : y ≡ due .state .year → Within 1 days (daysInYear y) → length t < 2 → year due (yearRecord y days t) ≡ refused 1
   no-table-end e d h = year-begun 1 e d (begin-short CP 1152 t h)

@@ -21,7 +21,7 @@ abbrev pub YearPieces : Due → List (List ℕ) → List Year → Type 0
 YearPieces due [] [] = Unit {0}
 YearPieces due [] (y ∷ years) = ⊥
 YearPieces due (piece ∷ pieces) [] = ⊥
-YearPieces due (piece ∷ pieces) (y ∷ years) = (yearPiece due piece ≡ accepted y []) × YearPieces (next due) pieces years
+YearPieces due (piece ∷ pieces) (y ∷ years) = (yearPiece due piece ≡ accepted y []) × YearPieces (next y due) pieces years
 
 -- the bytes s are an opening piece, n year pieces and EN, accepted one after the other with the records of d
 pub record InPieces (s : List ℕ) (d : Dossier) : Type 0 where

@@ -39,22 +39,26 @@ noneLeft = do
   begin YR 4
   refuse 6
 
--- "year not the next, none left, or d wrong": 6; the year that is due, where one is left
-unfoldable pub yearDue : Due → Reader Year
-yearDue due = do
+-- "year not the next, none left, or d wrong": 6; the records of the year that is due, for the totals of PA and DA
+unfoldable pub yearRecords : (dueYear start beltstart : ℕ) → Reader Year
+yearRecords dueYear start beltstart = do
   begin YR 4
   calendarYear ← field 2
   days ← field 2
-  equal 6 calendarYear (due .nextYear)
+  equal 6 calendarYear dueYear
   within 6 1 days (daysInYear calendarYear)
-  project ← conversions CP (due .projectTotal)
-  belt ← conversions CD (due .beltTotal)
+  project ← conversions CP start
+  belt ← conversions CD beltstart
   records ← activities []
   give (record { year = calendarYear; operatingDays = days; conversions = project; beltConversions = belt; activities = records })
 
--- a year, where one is left or none
+-- where one is left or none
+unfoldable pub yearLeft : (dueYear left start beltstart : ℕ) → Reader Year
+yearLeft dueYear left start beltstart = cond (eqb left 0) noneLeft (yearRecords dueYear start beltstart)
+
+-- a year, for what is due
 unfoldable pub year : Due → Reader Year
-year due = cond (eqb (due .left) 0) noneLeft (yearDue due)
+year due = yearLeft (due .state .year) (due .state .left) (due .terms .start .0) (due .terms .beltstart .0)
 
 -- "EN is due only after n years; YR stays due there and gives 6"; "mark not due here, or bytes after EN": 2
 unfoldable pub end : Reader (Unit {0})
@@ -67,7 +71,7 @@ years zero due before = do
   give before
 years (suc more) due before = do
   y ← year due
-  years more (next due) (before ++ (y ∷ []))
+  years more (next y due) (before ++ (y ∷ []))
 
 -- the dossier: HD to MP, then n years, then EN
 unfoldable pub dossier : Reader Dossier

@@ -1,17 +1,24 @@
 -- Document 01, "The dossier": each record's fields, their ranges, and its bytes. What YR, CP, CD and the activity records bring is a Year of the
 -- crate figures; an activity record is an Activity of the crate activity, which has its ranges.
 -- Assumes nothing.
-use Prim.Native.Nat.{ℕ, suc, _-_, _≤_, _<_}
+use Prim.Native.Nat.{ℕ, _≤_, _<_}
 use mathlib.Core.Path.{_≡_}
 use mathlib.Core.Option.{Option, none, some}
 use mathlib.Core.List.{List, [], _∷_, map}
+use lib.IntN.{pos}
 use lib.ListN.{length}
+use Rattle.classes.specs.declared.AreaUnits.{AreaUnits}
+use Rattle.classes.specs.Classes.{carbonStocks}
+use Rattle.classes.specs.Matrix.{RowsSum, optionOneMatrix}
 use Rattle.classes.specs.Calendar.{daysInYear}
-use Rattle.classes.specs.Matrix.{RowsSum}
+use Rattle.projection.specs.Projection.{openedRegion}
 use Rattle.activity.specs.declared.Activity.{Activity}
 use Rattle.activity.specs.declared.Activity.the-variants.{Fuel, Vehicles, Nitrogen, Lime}
 use Rattle.activity.specs.Activity.{Within, ActivitiesInRange}
+use Rattle.figures.specs.declared.Terms.{Terms}
+use Rattle.figures.specs.declared.State.{State}
 use Rattle.figures.specs.Year.{Year}
+use Rattle.figures.specs.Reckoning.{afterYear}
 use Rattle.wire.specs.Bytes.{bytes, bytesOfEach, joined, total}
 use Rattle.dossier.specs.Marks.{HD, PA, DA, MP, YR, CP, CD, FU, VE, NI, LI, EN}
 
@@ -70,26 +77,52 @@ optionBytes (some matrix) = matrixBytes matrix
 unfoldable pub openingBytes : Opening → List ℕ
 openingBytes o = joined (headBytes (o .head) ∷ areasBytes PA (o .projectAreas) ∷ areasBytes DA (o .beltAreas) ∷ optionBytes (o .matrix) ∷ [])
 
--- what a ledger has settled for a year piece: the year that is next, how many are left, the totals of PA and DA
+-- areas of area units
+abbrev pub units : List ℕ → List AreaUnits
+units xs = map (λ (n : ℕ). record { 0 = n }) xs
+
+-- "Option 1 uses the matrix" of table 4
+abbrev pub matrixInUse : Option (List ℕ) → List ℕ
+matrixInUse none = optionOneMatrix
+matrixInUse (some matrix) = matrix
+
+-- what an opening settles: its option, the stocks and the matrix in use, "the total of PA, for the belt that of DA"
+unfoldable pub termsOf : Opening → Terms
+termsOf o = record {
+  option = o .head .option;
+  stocks = carbonStocks;
+  matrix = matrixInUse (o .matrix);
+  start = record { 0 = total (o .projectAreas) };
+  beltstart = record { 0 = total (o .beltAreas) };
+}
+
+-- the state that it starts: n years from the first on, "the areas at inception", nothing credited
+unfoldable pub stateOf : Opening → State
+stateOf o = record {
+  year = o .head .firstYear;
+  left = o .head .years;
+  project = openedRegion (units (o .projectAreas));
+  belt = openedRegion (units (o .beltAreas));
+  total = record { 0 = pos 0 };
+}
+
+-- what a year is judged against: the terms, and the state that the years before it left
 pub record Due : Type 0 where
-  pub nextYear : ℕ
-  pub left : ℕ
-  pub projectTotal : ℕ
-  pub beltTotal : ℕ
+  pub terms : Terms
+  pub state : State
 
--- an opening settles the first year, n years left and its totals
 unfoldable pub settled : Opening → Due
-settled o = record { nextYear = o .head .firstYear; left = o .head .years; projectTotal = total (o .projectAreas); beltTotal = total (o .beltAreas) }
+settled o = record { terms = termsOf o; state = stateOf o }
 
--- what is due once a year is given, "without a gap"
-unfoldable pub next : Due → Due
-next due = record { nextYear = suc (due .nextYear); left = due .left - 1; projectTotal = due .projectTotal; beltTotal = due .beltTotal }
+-- what is due once a year is given
+unfoldable pub next : Year → Due → Due
+next y due = record { terms = due .terms; state = afterYear (due .terms) y (due .state) }
 
 -- what is due can be said in a year piece: the year in 16 bits, totals of PA and DA in range
 pub record DueInRange (due : Due) : Type 0 where
-  pub nextYear : due .nextYear < 65536
-  pub projectTotal : due .projectTotal ≤ 1000000000000
-  pub beltTotal : due .beltTotal ≤ 1000000000000
+  pub year : due .state .year < 65536
+  pub start : due .terms .start .0 ≤ 1000000000000
+  pub beltstart : due .terms .beltstart .0 ≤ 1000000000000
 
 -- "CP and CD, 144 conversions of 64 bits each, diagonal included, whose sum is the total of PA or DA" (sum)
 pub record ConversionsInRange (sum : ℕ) (conversions : List ℕ) : Type 0 where
@@ -108,11 +141,11 @@ activityBytes (Lime material grams) = joined (bytes 2 LI ∷ bytes 1 material �
 
 -- "YR with year and d, 16 bits each (from the first year on without a gap; d from 1 to D); CP and CD, ..; then 0 to 60 activity records", for what is due
 pub record YearInRange (due : Due) (y : Year) : Type 0 where
-  pub left : 1 ≤ due .left
-  pub year : y .year ≡ due .nextYear
+  pub left : 1 ≤ due .state .left
+  pub year : y .year ≡ due .state .year
   pub days : Within 1 (y .operatingDays) (daysInYear (y .year))
-  pub conversions : ConversionsInRange (due .projectTotal) (y .conversions)
-  pub beltConversions : ConversionsInRange (due .beltTotal) (y .beltConversions)
+  pub conversions : ConversionsInRange (due .terms .start .0) (y .conversions)
+  pub beltConversions : ConversionsInRange (due .terms .beltstart .0) (y .beltConversions)
   pub count : length (y .activities) ≤ 60
   pub activities : ActivitiesInRange (y .activities)
 
@@ -124,7 +157,7 @@ yearBytes y =
 -- years given one after the other
 abbrev pub YearsInRange : Due → List Year → Type 0
 YearsInRange due [] = Unit {0}
-YearsInRange due (y ∷ years) = YearInRange due y × YearsInRange (next due) years
+YearsInRange due (y ∷ years) = YearInRange due y × YearsInRange (next y due) years
 
 -- HD to MP, "then n times" a year, then "EN, no fields, nothing after it"
 pub record Dossier : Type 0 where

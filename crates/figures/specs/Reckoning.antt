@@ -1,17 +1,18 @@
 -- Document 01, "Projection" and "A year's figures", over years: the reckoning that a ledger carries.
 -- Assumes nothing.
-use Prim.Native.Nat.{ℕ, _+_}
+use Prim.Native.Nat.{ℕ, _+_, _-_}
 use mathlib.Core.List.{List, [], _∷_}
 use lib.ListN.{length}
-use lib.IntN.{ℤ, pos, _+ℤ_}
-use Rattle.classes.specs.declared.AreaUnits.{AreaUnits}
+use lib.IntN.{pos, _+ℤ_}
 use Rattle.classes.specs.Classes.{emissionFactor}
 use Rattle.classes.specs.Calendar.{daysInYear}
 use Rattle.projection.specs.declared.Region.{Region}
-use Rattle.projection.specs.Projection.{projectedCarbon, openedRegion, projectedRegion}
+use Rattle.projection.specs.Projection.{projectedCarbon, projectedRegion}
 use Rattle.activity.specs.Activity.{activityEmissions}
 use Rattle.figures.specs.declared.Figures.{Figures}
-use Rattle.figures.specs.Year.{Terms, Year}
+use Rattle.figures.specs.declared.Terms.{Terms}
+use Rattle.figures.specs.declared.State.{State}
+use Rattle.figures.specs.Year.{Year}
 use Rattle.figures.specs.Figures.{referenceLevel, monitoredCarbon, countedFactor, stockChangeEmissions, figuresOf}
 
 -- the reference of a region in a year, and the emissions of a table of conversions: project area and belt alike
@@ -26,21 +27,14 @@ unfoldable pub yearFigures : Terms → Year → (project belt : Region) → Figu
 yearFigures t y project belt =
     figuresOf (pos (regionReference t y project)) (pos (tableEmissions t (y .conversions))) (pos (activityEmissions (y .activities))) (pos (tableEmissions t (y .beltConversions))) (pos (regionReference t y belt))
 
--- project area, belt, and the period total, the sum of credited
-pub record Reckoning : Type 0 where
-  pub project : Region
-  pub belt : Region
-  pub total : ℤ
-
--- the areas of PA and DA, and nothing credited yet
-unfoldable pub opened : (project belt : List AreaUnits) → Reckoning
-opened project belt = record { project = openedRegion project; belt = openedRegion belt; total = pos 0 }
-
-unfoldable pub afterYear : Terms → Year → Reckoning → Reckoning
-afterYear t y r = record {
-  project = projectedRegion (t .matrix) (r .project);
-  belt = projectedRegion (t .matrix) (r .belt);
-  total = r .total +ℤ yearFigures t y (r .project) (r .belt) .credited .0;
+-- what an accepted year changes: the next is due, one fewer is left, both regions are projected, and the period total, the sum of credited, grows
+unfoldable pub afterYear : Terms → Year → State → State
+afterYear t y s = record {
+  year = s .year + 1;
+  left = s .left - 1;
+  project = projectedRegion (t .matrix) (s .project);
+  belt = projectedRegion (t .matrix) (s .belt);
+  total = record { 0 = s .total .0 +ℤ yearFigures t y (s .project) (s .belt) .credited .0 };
 }
 
 -- the activity records of the years

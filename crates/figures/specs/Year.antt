@@ -1,14 +1,8 @@
--- What an accepted opening settles and what an accepted year brings (document 01, "The dossier").
+-- What an accepted year brings (document 01, "The dossier").
 -- Assumes nothing.
 use Prim.Native.Nat.{ℕ}
 use mathlib.Core.List.{List}
 use Rattle.activity.specs.declared.Activity.{Activity}
-
--- the option, 1 or 2; the 144 probabilities of the matrix, which project and belt share; the twelve carbon stocks in use
-pub record Terms : Type 0 where
-  pub option : ℕ
-  pub matrix : List ℕ
-  pub stocks : List ℕ
 
 -- the year, its operating days (document 01: d), the 144 monitored conversions of the project area and of the belt, and the activity records
 pub record Year : Type 0 where

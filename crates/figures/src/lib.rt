@@ -1,6 +1,8 @@
 // The figures of a year.
+use classes::AreaUnits;
 use classes::CarbonUnits;
 use classes::Grams;
+use projection::Region;
 ghost use mathlib.Core.Path.{_≡_};
 ghost use Prim.Native.Nat.{_^_, _≤_, _<_};
 ghost use mathlib.Core.Bool.{cond};
@@ -14,6 +16,24 @@ ghost use Rattle.figures.specs.Ranges.{SmallCarbon, SmallYear, SmallGram
 
 // The place of class NF.
 const NON_FOREST: usize = 11;
+
+// What an opening settles and no year changes: the option, the carbon stocks and the matrix in use, and the starting areas of project and belt.
+pub struct Terms {
+    pub option: u64,
+    pub stocks: [u64; 12],
+    pub matrix: [u64; 144],
+    pub start: AreaUnits,
+    pub beltstart: AreaUnits,
+}
+
+// What years change: the year that is due, the years left, both regions, and the total credited.
+pub struct State {
+    pub year: u64,
+    pub left: u64,
+    pub project: Region,
+    pub belt: Region,
+    pub total: Grams,
+}
 
 // The eight figures of a year, in the order in which they are reported.
 pub struct Figures {
