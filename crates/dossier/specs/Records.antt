@@ -6,7 +6,7 @@ use mathlib.Core.Path.{_≡_}
 use mathlib.Core.Option.{Option, none, some}
 use mathlib.Core.List.{List, [], _∷_, map}
 use lib.IntN.{pos}
-use lib.ListN.{length}
+use lib.ListN.{length, replicate}
 use Rattle.classes.specs.declared.AreaUnits.{AreaUnits}
 use Rattle.classes.specs.Classes.{carbonStocks}
 use Rattle.classes.specs.Matrix.{RowsSum, optionOneMatrix}
@@ -103,6 +103,19 @@ stateOf o = record {
   left = o .head .years;
   project = openedRegion (units (o .projectAreas));
   belt = openedRegion (units (o .beltAreas));
+  total = record { 0 = pos 0 };
+}
+
+-- "all zeros": the terms and the state of a ledger whose opening was refused
+unfoldable pub emptyTerms : Terms
+emptyTerms = record { option = 0; stocks = replicate 12 0; matrix = replicate 144 0; start = record { 0 = 0 }; beltstart = record { 0 = 0 } }
+
+unfoldable pub emptyState : State
+emptyState = record {
+  year = 0;
+  left = 0;
+  project = openedRegion (units (replicate 12 0));
+  belt = openedRegion (units (replicate 12 0));
   total = record { 0 = pos 0 };
 }
 

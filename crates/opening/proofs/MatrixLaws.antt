@@ -15,6 +15,7 @@ use Rattle.classes.specs.Matrix.{entry, million, optionOneMatrix}
 use Rattle.wire.specs.Bytes.{numbers, total, fieldAt}
 use Rattle.wire.proofs.BytesLaws.{length-numbers}
 use Rattle.dossier.specs.Marks.{MP}
+use Rattle.dossier.specs.Records.{matrixInUse}
 use Rattle.dossier.specs.Reader.{Judged, refused, accepted, _>>=_, _>>_, give, begin}
 use Rattle.dossier.specs.JudgingRecords.{rows, matrix, matrixUnder}
 use Rattle.dossier.proofs.ReaderLaws.{equal-yes}
@@ -23,7 +24,7 @@ use Rattle.cursor.specs.Answers.{begunSays}
 use Rattle.cursor.proofs.AtLaws.{begun-no, begun-yes, fields-is}
 use Rattle.opening.specs.declared.MatrixAnswer.{MatrixAnswer}
 use Rattle.opening.specs.declared.Matrix.{Matrix}
-use Rattle.opening.specs.Answers.{noMatrix, matrixJudged, matrixSays, matrixFacts, matrixInside, matrixOf, matrixInUse, matrixUnderJudged, matrixUnderFacts}
+use Rattle.opening.specs.Answers.{noMatrix, matrixJudged, matrixSays, matrixFacts, matrixInside, matrixOf, matrixUnderJudged, matrixUnderFacts}
 use Rattle.opening.proofs.NumbersLaws.{getD-numbers, stored-next, all-stored}
 
 -- the first i rows of MP at a place have the right sum

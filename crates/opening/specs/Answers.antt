@@ -9,11 +9,11 @@ use lib.Dec.{eqb}
 use lib.ListN.{length, drop, replicate}
 use Rattle.wire.specs.Bytes.{total}
 use Rattle.classes.specs.declared.AreaUnits.{AreaUnits}
-use Rattle.classes.specs.Matrix.{optionOneMatrix}
 use Rattle.dossier.specs.Marks.{PA, DA}
 use Rattle.dossier.specs.Reader.{Judged, refused, accepted, Reader, _>>=_, give}
-use Rattle.dossier.specs.Records.{Head, Opening}
+use Rattle.dossier.specs.Records.{Head, matrixInUse, emptyTerms, emptyState, Due, settled}
 use Rattle.dossier.specs.JudgingRecords.{areas, matrixUnder}
+use Rattle.dossier.specs.Judging.{opening}
 use Rattle.opening.specs.declared.Head.{Head as HeadFields}
 use Rattle.opening.specs.declared.HeadAnswer.{HeadAnswer}
 use Rattle.opening.specs.declared.AreasAnswer.{AreasAnswer}
@@ -82,11 +82,6 @@ matrixInside s r = matrixFacts s (r .answer)
 abbrev pub matrixOf : ℕ → List ℕ → Option (List ℕ)
 matrixOf option matrix = cond (eqb option 2) (some matrix) none
 
--- "Option 1 uses the matrix" of table 4
-abbrev pub matrixInUse : Option (List ℕ) → List ℕ
-matrixInUse none = optionOneMatrix
-matrixInUse (some matrix) = matrix
-
 abbrev pub matrixUnderJudged : ℕ → List ℕ → List ℕ → MatrixAnswer → Judged (Option (List ℕ))
 matrixUnderJudged option s matrix (MatrixAnswer.Read next) = accepted (matrixOf option matrix) (drop next s)
 matrixUnderJudged option s matrix (MatrixAnswer.Refused n) = refused n
@@ -102,35 +97,38 @@ matrixUnderFacts option s matrix (MatrixAnswer.Refused n) = Unit {0}
 abbrev pub matrixUnderInside : ℕ → List ℕ → Matrix → Type 0
 matrixUnderInside option s r = matrixUnderFacts option s (r .matrix) (r .answer)
 
--- ---- HD to MP
+-- ---- HD to MP: terms and state stand beside the answer, all zeros where it is a refusal
 abbrev pub noOpening : ℕ → Opened
-noOpening n = record { answer = OpeningAnswer.Refused n; project = replicate 12 (record { 0 = 0 }); belt = replicate 12 (record { 0 = 0 }); matrix = replicate 144 0 }
+noOpening n = record { answer = OpeningAnswer.Refused n; terms = emptyTerms; state = emptyState }
 
-abbrev pub openedJudged : List ℕ → Opened → OpeningAnswer → Judged Opening
-openedJudged s r (OpeningAnswer.Read option first years project belt next) =
-    accepted (record { head = headOf option first years; projectAreas = amounts (r .project); beltAreas = amounts (r .belt); matrix = matrixOf option (r .matrix) }) (drop next s)
-openedJudged s r (OpeningAnswer.Refused n) = refused n
+abbrev pub openedJudged : List ℕ → Due → OpeningAnswer → Judged Due
+openedJudged s due (OpeningAnswer.Read next) = accepted due (drop next s)
+openedJudged s due (OpeningAnswer.Refused n) = refused n
 
-abbrev pub openedSays : List ℕ → Opened → Judged Opening
-openedSays s r = openedJudged s r (r .answer)
+abbrev pub openedSays : List ℕ → Opened → Judged Due
+openedSays s r = openedJudged s (record { terms = r .terms; state = r .state }) (r .answer)
 
--- read: the next record begins inside, the totals are those of the areas, the matrix held is the one in use; refused: all zero
+-- read: the next record begins inside
 abbrev pub openedFacts : List ℕ → Opened → OpeningAnswer → Type 0
-openedFacts s r (OpeningAnswer.Read option first years project belt next) =
-    (next ≤ length s) × (project .0 ≡ total (amounts (r .project))) × (belt .0 ≡ total (amounts (r .belt))) × (r .matrix ≡ matrixInUse (matrixOf option (r .matrix)))
+openedFacts s r (OpeningAnswer.Read next) = next ≤ length s
 openedFacts s r (OpeningAnswer.Refused n) = r ≡ noOpening n
 
 abbrev pub openedInside : List ℕ → Opened → Type 0
 openedInside s r = openedFacts s r (r .answer)
 
--- the opening from DA on, after HD and PA; from PA on, after HD
-unfoldable pub fromBelt : Head → List ℕ → Reader Opening
+-- what an opening settles; from DA on, after HD and PA; from PA on, after HD
+unfoldable pub settledOpening : Reader Due
+settledOpening = do
+  o ← opening
+  give (settled o)
+
+unfoldable pub fromBelt : Head → List ℕ → Reader Due
 fromBelt h project = do
   belt ← areas DA 0
   m ← matrixUnder (h .option)
-  give (record { head = h; projectAreas = project; beltAreas = belt; matrix = m })
+  give (settled (record { head = h; projectAreas = project; beltAreas = belt; matrix = m }))
 
-unfoldable pub fromAreas : Head → Reader Opening
+unfoldable pub fromAreas : Head → Reader Due
 fromAreas h = do
   project ← areas PA 1
   fromBelt h project

@@ -1,14 +1,18 @@
 // The opening of a dossier or of a ledger: HD, PA, DA and, under Option 2, MP.
 use classes::AreaUnits;
+use classes::Grams;
+use figures::State;
+use figures::Terms;
+use projection::Region;
 ghost use mathlib.Core.Path.{_≡_};
 ghost use Prim.Native.Nat.{_+_, _*_, _≤_, _<_};
 ghost use lib.ListN.{length, drop};
 ghost use lib.Seq.{sets};
+ghost use Rattle.projection.specs.Projection.{openedRegion};
 ghost use Rattle.wire.specs.Bytes.{numbers, total};
 ghost use Rattle.dossier.specs.JudgingRecords.{head, areas as judgedAreas, matrix as judgedMatrix, matrixUnder};
-ghost use Rattle.dossier.specs.Judging.{opening as judgedOpening};
 ghost use Rattle.opening.specs.Answers.{headFields, headSays, headInside, amounts, noAreas, areasSays, areasInside, noMatrix, matrixSays, matrixInside};
-ghost use Rattle.opening.specs.Answers.{matrixUnderSays, matrixUnderInside, noOpening, openedSays, openedInside, fromBelt, fromAreas};
+ghost use Rattle.opening.specs.Answers.{matrixUnderSays, matrixUnderInside, noOpening, openedSays, openedInside, settledOpening, fromBelt, fromAreas};
 
 const HD: u64 = 0x4844;
 
@@ -54,38 +58,29 @@ struct Matrix {
 }
 
 pub enum OpeningAnswer {
-    Read {
-        option: u64,
-        first: u64,
-        years: u64,
-        project: AreaUnits,
-        belt: AreaUnits,
-        next: usize,
-    },
+    Read(usize),
     Refused(u8),
 }
 
-// An opening with its areas and the matrix in use; all zero where it is a refusal.
+// What an opening settles and the state it starts, with the answer; all zeros where it is a refusal.
 pub struct Opened {
     pub answer: OpeningAnswer,
-    pub project: [AreaUnits; 12],
-    pub belt: [AreaUnits; 12],
-    pub matrix: [u64; 144],
+    pub terms: Terms,
+    pub state: State,
 }
 
-// HD from at.
-fn read_head(s: &[u8], at: usize) -> HeadAnswer
-    requires { ⌜ at ≤ length (now s) ⌝ }
-    ensures { λ r. ⌜ headSays (now (s .entry)) r ≡ head (drop at (now (s .entry))) ⌝ }
+// HD.
+fn read_head(s: &[u8]) -> HeadAnswer
+    ensures { λ r. ⌜ headSays (now (s .entry)) r ≡ head (now (s .entry)) ⌝ }
     ensures { λ r. ⌜ headInside (now (s .entry)) r ⌝ }
 {
-    let fault = cursor::begun(s, at, HD, 4);
+    let fault = cursor::begun(s, 0, HD, 4);
     if fault != 0 {
         return HeadAnswer::Refused(fault);
     }
-    let option = wire::field8(s, at + 2);
-    let first = wire::field16(s, at + 3);
-    let years = wire::field8(s, at + 5);
+    let option = wire::field8(s, 2);
+    let first = wire::field16(s, 3);
+    let years = wire::field8(s, 5);
     if cursor::outside(option, 1, 2) {
         return HeadAnswer::Refused(3);
     }
@@ -101,7 +96,7 @@ fn read_head(s: &[u8], at: usize) -> HeadAnswer
             first,
             years,
         },
-        next: at + 6,
+        next: 6,
     }
 }
 
@@ -214,20 +209,42 @@ fn read_matrix_under(s: &[u8], at: usize, option: u64) -> Matrix
     }
 }
 
+// A region with these areas at inception.
+fn at_inception(areas: [AreaUnits; 12]) -> Region
+    ensures { λ r. ⌜ r ≡ openedRegion areas ⌝ }
+{
+    Region {
+        areas,
+        balance: AreaUnits(0),
+    }
+}
+
 fn no_opening(n: u8) -> Opened
     ensures { λ r. ⌜ r ≡ noOpening n ⌝ }
 {
+    let none = at_inception([AreaUnits(0); 12]);
     Opened {
         answer: OpeningAnswer::Refused(n),
-        project: [AreaUnits(0); 12],
-        belt: [AreaUnits(0); 12],
-        matrix: [0u64; 144],
+        terms: Terms {
+            option: 0,
+            stocks: [0u64; 12],
+            matrix: [0u64; 144],
+            start: AreaUnits(0),
+            beltstart: AreaUnits(0),
+        },
+        state: State {
+            year: 0,
+            left: 0,
+            project: none,
+            belt: none,
+            total: Grams(0),
+        },
     }
 }
 
 // The opening from DA on, after HD and PA, whose areas and their sum are given.
-fn with_belt(s: &[u8], at: usize, h: Head, sum: AreaUnits, areas: [AreaUnits; 12]) -> Opened
-    requires { ⌜ (at ≤ length (now s)) × (sum .0 ≡ total (amounts areas)) ⌝ }
+fn with_belt(s: &[u8], at: usize, h: Head, start: AreaUnits, areas: [AreaUnits; 12]) -> Opened
+    requires { ⌜ (at ≤ length (now s)) × (start .0 ≡ total (amounts areas)) ⌝ }
     ensures { λ r. ⌜ openedSays (now (s .entry)) r ≡ fromBelt (headFields h) (amounts areas) (drop at (now (s .entry))) ⌝ }
     ensures { λ r. ⌜ openedInside (now (s .entry)) r ⌝ }
 {
@@ -236,25 +253,37 @@ fn with_belt(s: &[u8], at: usize, h: Head, sum: AreaUnits, areas: [AreaUnits; 12
     let belt_areas = b.areas;
     match found {
         AreasAnswer::Refused(n) => no_opening(n),
-        AreasAnswer::Read { sum: belt, next } => {
+        AreasAnswer::Read {
+            sum: beltstart,
+            next,
+        } => {
             let m = read_matrix_under(s, next, h.option);
             let answer = m.answer;
             let matrix = m.matrix;
             match answer {
                 MatrixAnswer::Refused(n) => no_opening(n),
-                MatrixAnswer::Read(next) => Opened {
-                    answer: OpeningAnswer::Read {
-                        option: h.option,
-                        first: h.first,
-                        years: h.years,
-                        project: sum,
-                        belt,
-                        next,
-                    },
-                    project: areas,
-                    belt: belt_areas,
-                    matrix,
-                },
+                MatrixAnswer::Read(next) => {
+                    let stocks = classes::carbon_stocks();
+                    let project = at_inception(areas);
+                    let belt = at_inception(belt_areas);
+                    Opened {
+                        answer: OpeningAnswer::Read(next),
+                        terms: Terms {
+                            option: h.option,
+                            stocks,
+                            matrix,
+                            start,
+                            beltstart,
+                        },
+                        state: State {
+                            year: h.first,
+                            left: h.years,
+                            project,
+                            belt,
+                            total: Grams(0),
+                        },
+                    }
+                }
             }
         }
     }
@@ -275,13 +304,12 @@ fn with_areas(s: &[u8], at: usize, h: Head) -> Opened
     }
 }
 
-// The opening from at: HD to DA, or to MP under Option 2.
-pub fn read_opening(s: &[u8], at: usize) -> Opened
-    requires { ⌜ at ≤ length (now s) ⌝ }
-    ensures { λ r. ⌜ openedSays (now (s .entry)) r ≡ judgedOpening (drop at (now (s .entry))) ⌝ }
+// The opening: HD to DA, or to MP under Option 2.
+pub fn read_opening(s: &[u8]) -> Opened
+    ensures { λ r. ⌜ openedSays (now (s .entry)) r ≡ settledOpening (now (s .entry)) ⌝ }
     ensures { λ r. ⌜ openedInside (now (s .entry)) r ⌝ }
 {
-    match read_head(s, at) {
+    match read_head(s) {
         HeadAnswer::Refused(n) => no_opening(n),
         HeadAnswer::Read { head, next } => with_areas(s, next, head),
     }

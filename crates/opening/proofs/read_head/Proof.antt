@@ -12,20 +12,11 @@ begun-requires c κs = search needs
 returns : tie.Need-returns
 returns c = (search (needs, head-no), search needs)
 
-add-field8 : tie.Need-add-field8
-add-field8 c = search needs
-
 field8-requires : tie.Need-field8-requires
 field8-requires c κs = search needs
 
-add-field16 : tie.Need-add-field16
-add-field16 c = search needs
-
 field16-requires : tie.Need-field16-requires
 field16-requires c κs = search needs
-
-add-field8-2 : tie.Need-add-field8-2
-add-field8-2 c = search needs
 
 field8-requires-2 : tie.Need-field8-requires-2
 field8-requires-2 c κs = search needs
@@ -48,18 +39,16 @@ outside-requires-3 c κs = search needs
 returns-4 : tie.Need-returns-4
 returns-4 c = (search (needs, years-out), search needs)
 
-add-t8 : tie.Need-add-t8
-add-t8 c = search needs
-
 returns-5 : tie.Need-returns-5
 returns-5 c =
-    let o = c .before in
-    let q = o .before .before in
-    let p = q .before .before in
-    let f = p .before in
-    let b = f .before .before .before in (
-      head-read _ _ _ (b .before .begun .ensures .0) (b .if1 .left) _ _ _ (f .before .before .field8 .ensures .0) (f .before .field16 .ensures .0) (f .field82 .ensures .0)
-          _ (p .outside .ensures) (q .before .if2 .left) _ (q .outside2 .ensures) (o .before .if3 .left) _ (o .outside3 .ensures) (c .if4 .left),
+    let at-years = c .before in
+    let at-first = at-years .before .before in
+    let at-option = at-first .before .before in
+    let at-fields = at-option .before in
+    let at-begun = at-fields .before .before .before in (
+      head-read _ _ (at-begun .before .begun .ensures .0) (at-begun .if1 .left)
+          _ _ _ (at-fields .before .before .field8 .ensures .0) (at-fields .before .field16 .ensures .0) (at-fields .field82 .ensures .0)
+          _ (at-option .outside .ensures) (at-first .before .if2 .left) _ (at-first .outside2 .ensures) (at-years .before .if3 .left) _ (at-years .outside3 .ensures) (c .if4 .left),
       omega arith,
     )
 
@@ -69,11 +58,8 @@ read-head-spec =
     (tie.spec
     begun-requires
     returns
-    add-field8
     field8-requires
-    add-field16
     field16-requires
-    add-field8-2
     field8-requires-2
     outside-requires
     returns-2
@@ -81,5 +67,4 @@ read-head-spec =
     returns-3
     outside-requires-3
     returns-4
-    add-t8
     returns-5)

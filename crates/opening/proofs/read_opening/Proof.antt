@@ -1,11 +1,11 @@
 -- `opening::read_opening` meets its contract: a refusal of HD is its own; otherwise PA follows.
 -- Assumes nothing.
 use borrow.Author.Needs.{needs}
-use Rattle.dossier.specs.Reader.{_>>=_}
-use Rattle.dossier.specs.Judging.{opening}
-use Rattle.cursor.proofs.AtLaws.{bind-no}
-use Rattle.opening.specs.Answers.{fromBelt, fromAreas}
-use Rattle.opening.proofs.OpeningLaws.{opening-refused}
+use mathlib.Core.Path.{_∙_}
+use Rattle.dossier.specs.JudgingRecords.{head}
+use Rattle.cursor.proofs.AtLaws.{bind-no, bind-yes}
+use Rattle.opening.specs.Answers.{fromAreas}
+use Rattle.opening.proofs.OpeningLaws.{opening-refused, settled-is}
 use Rattle.opening.proofs.read_opening.Statement.{statement}
 use Rattle.opening.proofs.read_opening.Tie as tie
 
@@ -27,16 +27,16 @@ with-areas-requires c κs =
     rw (k .head .given .1) at (k .before .before .read-head .ensures .1)
 
 returns : tie.Need-returns
-unfolding opening
 returns c =
-    let k = c .before .before in
-    opening-refused _ _ _ _ (c .no-opening .ensures) (bind-no _ _ _ _ (rw (k .n .given .1) at (k .before .before .read-head .ensures .0)))
+    let at-refused = c .before .before in
+    let fault = rw (at-refused .n .given .1) at (at-refused .before .before .read-head .ensures .0) in
+    opening-refused _ _ _ _ (c .no-opening .ensures) (bind-no head fromAreas _ _ fault ∙ settled-is _)
 
 returns-2 : tie.Need-returns-2
-unfolding opening fromAreas fromBelt _>>=_
 returns-2 c =
-    let k = c .before .before in
-    rw (← rw (k .head .given .1) at (k .before .before .read-head .ensures .0)) (c .with-areas .ensures)
+    let at-read = c .before .before in
+    let was-read = rw (at-read .head .given .1) at (at-read .before .before .read-head .ensures .0) in
+    (c .with-areas .ensures .0 ∙ bind-yes head fromAreas _ _ _ was-read ∙ settled-is _, c .with-areas .ensures .1)
 
 pub read-opening-spec : {M : Type 1} → statement M
 read-opening-spec =

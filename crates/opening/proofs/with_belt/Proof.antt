@@ -2,8 +2,8 @@
 -- Assumes nothing.
 use borrow.Author.Needs.{needs}
 use Rattle.cursor.proofs.AtLaws.{bind-no}
-use Rattle.opening.specs.Answers.{fromBelt}
-use Rattle.opening.proofs.OpeningLaws.{opening-refused, matrix-fault, opening-read}
+use Rattle.opening.specs.Answers.{matrixOf, fromBelt}
+use Rattle.opening.proofs.OpeningLaws.{opening-refused, matrix-fault, opening-read, settled-terms, settled-state}
 use Rattle.opening.proofs.with_belt.Statement.{statement}
 use Rattle.opening.proofs.with_belt.Tie as tie
 
@@ -49,12 +49,30 @@ returns-2 c =
 
 returns-3 : tie.Need-returns-3
 returns-3 c =
-    let m = c .before in
-    let r = m .before .before .before in
-    let k = r .before .before in
-    let b = rw (k .found2 .given .1) at (k .before .before .before .read-areas .ensures) in
-    let q = rw (m .answer2 .given .1) at (r .read-matrix-under .ensures) in
-    (opening-read _ _ _ _ _ (b .0) _ _ (q .0), (q .1 .0, k .before .before .before .before .before .pre .1, b .1 .1, q .1 .1))
+    let at-project = c .before in
+    let at-stocks = at-project .before in
+    let at-answer = at-stocks .before .before in
+    let at-matrix = at-answer .before .before .before in
+    let at-found = at-matrix .before .before in
+    let at-areas = at-found .before .before .before in
+    let at-start = at-areas .before .before in
+    let b = rw (at-found .found2 .given .1) at (at-areas .read-areas .ensures) in
+    let q = rw (at-answer .answer2 .given .1) at (at-matrix .read-matrix-under .ensures) in
+    let a = at-start .args in
+    let belt = at-areas .read-areas .result .areas in
+    let m = matrixOf (a .h .option) (at-matrix .read-matrix-under .result .matrix) in
+    let of-terms = settled-terms _ (a .areas) belt m _ _ _ _ (at-stocks .carbon-stocks .ensures) (q .1 .1) (at-start .pre .1) (b .1 .1) in
+    let of-state = settled-state _ (a .areas) belt m _ _ (at-project .at-inception .ensures) (c .at-inception2 .ensures) in
+    (opening-read _ _ _ _ _ (b .0) _ _ _ _ (q .0) of-terms of-state, q .1 .0)
+
+carbon-stocks-requires : tie.Need-carbon-stocks-requires
+carbon-stocks-requires c κs = search needs
+
+at-inception-requires : tie.Need-at-inception-requires
+at-inception-requires c κs = search needs
+
+at-inception-requires-2 : tie.Need-at-inception-requires-2
+at-inception-requires-2 c κs = search needs
 
 pub with-belt-spec : {M : Type 1} → statement M
 with-belt-spec =
@@ -68,6 +86,9 @@ with-belt-spec =
     enum-known-answer
     no-opening-requires-2
     enum-known-answer-2
+    carbon-stocks-requires
+    at-inception-requires
+    at-inception-requires-2
     returns
     returns-2
     returns-3)
