@@ -27,7 +27,7 @@ use Rattle.figures.specs.declared.Terms.{Terms}
 use Rattle.figures.specs.declared.State.{State}
 use Rattle.figures.specs.Year.{Year}
 use Rattle.figures.specs.Figures.{referenceLevel, stockChangeEmissions, displacedEmissions, reductionOf, figuresOf}
-use Rattle.figures.specs.Reckoning.{regionReference, tableEmissions, yearFigures, afterYear}
+use Rattle.figures.specs.Reckoning.{regionReference, tableEmissions, yearFigures, afterFigures, afterYear}
 use Rattle.assurance.specs.Unrounded.{Unrounded, openedᶠ, referenceᶠ, emissionsᶠ, activityᶠ, displacedᶠ, reductionᶠ, creditedᶠ, afterYearᶠ}
 use Rattle.assurance.proofs.RegionLaws.{Follows, opened-follows, year-follows, carbon-over, carbon-ratio, carbon-low, carbon-high}
 use Rattle.assurance.proofs.CreditLaws.{creditGap, near-credited}
@@ -105,7 +105,7 @@ module _ (t : Terms) (G : ℕ) (factor-le : (i j : ℕ) → emissionFactor (t .s
     near-credit = near-credited (968 * (G * suc n) + 400 + 100 * length (y .activities)) near-reduction
 
     pub year-reckoned : Reckoned G (suc n) (m + length (y .activities)) projectStart beltStart (afterYear t y r) (afterYearᶠ t y u)
-    unfolding afterYear afterYearᶠ
+    unfolding afterYear afterFigures afterYearᶠ
     year-reckoned = record {
       project = year-follows n projectStart (r .project) (u .project) (s .project) (t .matrix) rows;
       belt = year-follows n beltStart (r .belt) (u .belt) (s .belt) (t .matrix) rows;

@@ -8,7 +8,7 @@ use native.Mathlib.Omega.{arith}
 use lib.Dec.{lit<}
 use lib.ListN.{length}
 use Rattle.figures.specs.Year.{Year}
-use Rattle.figures.specs.Reckoning.{afterYear}
+use Rattle.figures.specs.Reckoning.{afterFigures, afterYear}
 use Rattle.wire.specs.Bytes.{Bytes, bytes, joined}
 use Rattle.dossier.specs.Marks.{YR, EN}
 use Rattle.dossier.specs.Records.{Opening, OpeningInRange, openingBytes, termsOf, stateOf, Due, settled, next, DueInRange, YearInRange, yearBytes, YearsInRange, Dossier, DossierInRange, dossierBytes}
@@ -62,7 +62,7 @@ pub room-due : {k : ℕ} (due : Due) → Room (suc k) due → DueInRange due
 room-due due r = record { year = omega arith; start = r .start; beltstart = r .beltstart }
 
 pub room-next : {k : ℕ} (y : Year) (due : Due) → Room (suc k) due → Room k (next y due)
-unfolding next afterYear
+unfolding next afterYear afterFigures
 room-next y due r = record { years = omega arith; start = r .start; beltstart = r .beltstart }
 
 pub room-opening : (o : Opening) → OpeningInRange o → (k : ℕ) → k ≤ o .head .years → Room k (settled o)

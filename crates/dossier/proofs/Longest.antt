@@ -17,7 +17,7 @@ use Rattle.activity.specs.declared.Activity.{Activity}
 use Rattle.activity.specs.declared.Activity.the-variants.{Fuel, Vehicles, Nitrogen, Lime}
 use Rattle.activity.specs.Activity.{ActivitiesInRange}
 use Rattle.figures.specs.Year.{Year}
-use Rattle.figures.specs.Reckoning.{afterYear}
+use Rattle.figures.specs.Reckoning.{afterFigures, afterYear}
 use Rattle.wire.specs.Bytes.{Bytes, bytes, bytesOfEach, joined, total}
 use Rattle.dossier.specs.Records.{headBytes, areasBytes, matrixBytes, MatrixUnder, Opening, OpeningInRange, optionBytes, openingBytes, termsOf, stateOf, Due, settled, next, conversionsBytes, activityBytes, YearInRange, yearBytes, YearsInRange, Dossier, DossierInRange, dossierBytes}
 use Rattle.dossier.specs.Reader.{accepted}
@@ -122,7 +122,7 @@ days-some y = go (eqb (y % 400) 0) (eqb (y % 100) 0) (eqb (y % 4) 0)
 
 longest-years : (k : ℕ) (due : Due) → due .state .left ≡ k → due .terms .start .0 ≡ 1 → due .terms .beltstart .0 ≡ 0
     → YearsInRange due (longestYears k (due .state .year))
-unfolding next afterYear total
+unfolding next afterYear afterFigures total
 longest-years zero due l p b = tt
 longest-years (suc k) due l p b = (
   record {

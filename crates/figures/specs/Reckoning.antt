@@ -27,15 +27,20 @@ unfoldable pub yearFigures : Terms → Year → (project belt : Region) → Figu
 yearFigures t y project belt =
     figuresOf (pos (regionReference t y project)) (pos (tableEmissions t (y .conversions))) (pos (activityEmissions (y .activities))) (pos (tableEmissions t (y .beltConversions))) (pos (regionReference t y belt))
 
--- what an accepted year changes: the next is due, one fewer is left, both regions are projected, and the period total, the sum of credited, grows
-unfoldable pub afterYear : Terms → Year → State → State
-afterYear t y s = record {
+-- what a year with these figures changes: the next is due, one fewer is left, both regions are projected, and the period total, the sum of
+-- credited, grows
+unfoldable pub afterFigures : List ℕ → Figures → State → State
+afterFigures matrix figures s = record {
   year = s .year + 1;
   left = s .left - 1;
-  project = projectedRegion (t .matrix) (s .project);
-  belt = projectedRegion (t .matrix) (s .belt);
-  total = record { 0 = s .total .0 +ℤ yearFigures t y (s .project) (s .belt) .credited .0 };
+  project = projectedRegion matrix (s .project);
+  belt = projectedRegion matrix (s .belt);
+  total = record { 0 = s .total .0 +ℤ figures .credited .0 };
 }
+
+-- an accepted year
+unfoldable pub afterYear : Terms → Year → State → State
+afterYear t y s = afterFigures (t .matrix) (yearFigures t y (s .project) (s .belt)) s
 
 -- the activity records of the years
 unfoldable pub recordCount : List Year → ℕ

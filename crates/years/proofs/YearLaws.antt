@@ -15,10 +15,9 @@ use Rattle.classes.specs.Calendar.{daysInYear}
 use Rattle.figures.specs.Year.{Year}
 use Rattle.wire.specs.Bytes.{fieldAt}
 use Rattle.dossier.specs.Marks.{YR, CP, CD}
-use Rattle.dossier.specs.Records.{Due}
 use Rattle.dossier.specs.Reader.{Judged, refused, accepted, Reader, after, _>>=_, _>>_, give, refuse, begin, outside}
 use Rattle.dossier.specs.JudgingRecords.{conversions}
-use Rattle.dossier.specs.Judging.{activities, noneLeft, yearDue, year}
+use Rattle.dossier.specs.Judging.{activities, noneLeft, yearRecords, yearLeft}
 use Rattle.cursor.specs.Answers.{begunSays}
 use Rattle.cursor.proofs.AtLaws.{begun-no, begun-yes, reading, bind-no, bind-yes, bind-bind, after-same}
 use Rattle.dossier.proofs.ReaderLaws.{step, was}
@@ -65,40 +64,40 @@ tables-summarized factor calendarYear days projectTotal beltTotal u =
     ∙ sym (bind-bind (conversions CP projectTotal u) _ _)
 
 -- ---- YR
-module _ (factor : ℕ → ℕ → ℕ) (due : Due) (s : List ℕ) (at r : ℕ) (h : begunSays s at r ≡ begin YR 4 (drop at s)) where
-  pub year-no : (r ≡ 0 → ⊥) → refused r ≡ summarizedYear factor due (drop at s)
-  unfolding summarizedYear year noneLeft yearDue
-  year-no f = bind-no (year due) _ (drop at s) r (go (eqb (due .left) 0))
+module _ (factor : ℕ → ℕ → ℕ) (due left start beltstart : ℕ) (s : List ℕ) (at r : ℕ) (h : begunSays s at r ≡ begin YR 4 (drop at s)) where
+  pub year-no : (r ≡ 0 → ⊥) → refused r ≡ summarizedYear factor due left start beltstart (drop at s)
+  unfolding summarizedYear yearLeft noneLeft yearRecords
+  year-no f = bind-no (yearLeft due left start beltstart) _ (drop at s) r (go (eqb left 0))
     where
-      go : (b : Bool) → refused r ≡ cond b noneLeft (yearDue due) (drop at s)
+      go : (b : Bool) → refused r ≡ cond b noneLeft (yearRecords due start beltstart) (drop at s)
       go true = begun-no s at YR 4 r h _ f
       go false = begun-no s at YR 4 r h _ f
 
   module _ (z : r ≡ 0) where
-    pub none-left : due .left ≡ 0 → refused 6 ≡ summarizedYear factor due (drop at s)
-    unfolding summarizedYear year noneLeft refuse
-    none-left e = bind-no (year due) _ (drop at s) 6 (rw (eq-eqb (due .left) 0 e) (begun-yes s at YR 4 r h (refuse 6) z))
+    pub none-left : left ≡ 0 → refused 6 ≡ summarizedYear factor due left start beltstart (drop at s)
+    unfolding summarizedYear yearLeft noneLeft refuse
+    none-left e = bind-no (yearLeft due left start beltstart) _ (drop at s) 6 (rw (eq-eqb left 0 e) (begun-yes s at YR 4 r h (refuse 6) z))
 
-    module _ (some : due .left ≡ 0 → ⊥) (y d : ℕ) (ey : y ≡ fieldAt 2 s (at + 2)) (ed : d ≡ fieldAt 2 s (at + 4)) where
+    module _ (some : left ≡ 0 → ⊥) (y d : ℕ) (ey : y ≡ fieldAt 2 s (at + 2)) (ed : d ≡ fieldAt 2 s (at + 4)) where
       tables : Reader Year
-      tables = conversions CP (due .projectTotal) >>= λ p. conversions CD (due .beltTotal) >>= λ b. activities [] >>= λ l. give (record { year = y; operatingDays = d; conversions = p; beltConversions = b; activities = l })
+      tables = conversions CP start >>= λ p. conversions CD beltstart >>= λ b. activities [] >>= λ l. give (record { year = y; operatingDays = d; conversions = p; beltConversions = b; activities = l })
 
-      year-at : year due (drop at s) ≡ cond (eqb y (due .nextYear)) (cond (outside 1 d (daysInYear y)) (refused 6) (tables (drop (at + 6) s))) (refused 6)
-      unfolding year yearDue tables
-      year-at = rw (ne-eqb (due .left) 0 some) (rw (← begun-yes s at YR 4 r h _ z) (simp (reading, ← ey, ← ed)))
+      year-at : yearLeft due left start beltstart (drop at s) ≡ cond (eqb y due) (cond (outside 1 d (daysInYear y)) (refused 6) (tables (drop (at + 6) s))) (refused 6)
+      unfolding yearLeft yearRecords tables
+      year-at = rw (ne-eqb left 0 some) (rw (← begun-yes s at YR 4 r h _ z) (simp (reading, ← ey, ← ed)))
 
-      pub year-other : (y ≡ due .nextYear → ⊥) → refused 6 ≡ summarizedYear factor due (drop at s)
+      pub year-other : (y ≡ due → ⊥) → refused 6 ≡ summarizedYear factor due left start beltstart (drop at s)
       unfolding summarizedYear
-      year-other f = bind-no (year due) _ (drop at s) 6 (rw (year-at, ne-eqb y (due .nextYear) f))
+      year-other f = bind-no (yearLeft due left start beltstart) _ (drop at s) 6 (rw (year-at, ne-eqb y due f))
 
-      module _ (e : y ≡ due .nextYear) (x : ℕ) (ex : x ≡ daysInYear y) (out : Bool) (eo : out ≡ outside 1 d x) where
-        pub days-wrong : out ≡ true → refused 6 ≡ summarizedYear factor due (drop at s)
+      module _ (e : y ≡ due) (x : ℕ) (ex : x ≡ daysInYear y) (out : Bool) (eo : out ≡ outside 1 d x) where
+        pub days-wrong : out ≡ true → refused 6 ≡ summarizedYear factor due left start beltstart (drop at s)
         unfolding summarizedYear
-        days-wrong f = bind-no (year due) _ (drop at s) 6 (rw (year-at, eq-eqb y (due .nextYear) e, ← ex, ← eo, f))
+        days-wrong f = bind-no (yearLeft due left start beltstart) _ (drop at s) 6 (rw (year-at, eq-eqb y due e, ← ex, ← eo, f))
 
-        pub days-right : out ≡ false → summarizedTables factor y d (due .projectTotal) (due .beltTotal) (drop (at + 6) s) ≡ summarizedYear factor due (drop at s)
+        pub days-right : out ≡ false → summarizedTables factor y d start beltstart (drop (at + 6) s) ≡ summarizedYear factor due left start beltstart (drop at s)
         unfolding summarizedYear tables _>>=_
-        days-right f = sym (rw (year-at, eq-eqb y (due .nextYear) e, ← ex, ← eo, f) (tables-summarized factor y d (due .projectTotal) (due .beltTotal) (drop (at + 6) s)))
+        days-right f = sym (rw (year-at, eq-eqb y due e, ← ex, ← eo, f) (tables-summarized factor y d start beltstart (drop (at + 6) s)))
 
 -- ---- what the answers of the code's calls said
 pub table-refused : (s : List ℕ) (r : TableAnswer) (n : ℕ) (j : Judged CarbonUnits) → r ≡ TableAnswer.Refused n → tableSays s r ≡ j → refused n ≡ j

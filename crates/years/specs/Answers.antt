@@ -12,11 +12,10 @@ use Rattle.activity.specs.Activity.{activityEmissions}
 use Rattle.figures.specs.Year.{Year}
 use Rattle.figures.specs.Figures.{monitoredCarbon}
 use Rattle.figures.specs.Ranges.{SmallCarbon, SmallGrams}
-use Rattle.dossier.specs.Records.{Due}
 use Rattle.dossier.specs.Reader.{Judged, refused, accepted, Reader, _>>=_, _>>_, give}
 use Rattle.dossier.specs.JudgingRecords.{conversions}
 use Rattle.dossier.specs.Marks.{CP, CD}
-use Rattle.dossier.specs.Judging.{year}
+use Rattle.dossier.specs.Judging.{yearLeft}
 use Rattle.activities.specs.Answers.{summedActivities}
 use Rattle.years.specs.declared.TableAnswer.{TableAnswer}
 use Rattle.years.specs.declared.YearAnswer.{YearAnswer}
@@ -53,9 +52,9 @@ summary factor y = record {
   activity = record { 0 = pos (activityEmissions (y .activities)) };
 }
 
-unfoldable pub summarizedYear : (ℕ → ℕ → ℕ) → Due → Reader Summary
-summarizedYear factor due = do
-  y ← year due
+unfoldable pub summarizedYear : (ℕ → ℕ → ℕ) → (dueYear left start beltstart : ℕ) → Reader Summary
+summarizedYear factor dueYear left start beltstart = do
+  y ← yearLeft dueYear left start beltstart
   give (summary factor y)
 
 -- from the activity records on, and from CP on

@@ -134,7 +134,7 @@ pub fn read_year(
 ) -> YearAnswer
     requires { ⌜ (at ≤ length (now s)) × (project .0 ≤ 1000000000000) × (belt .0 ≤ 1000000000000) ⌝ }
     requires { ⌜ FactorsFit (now factors) ⌝ }
-    ensures { λ r. ⌜ yearSays (now (s .entry)) r ≡ summarizedYear (entry (now (factors .entry))) (record { nextYear = year; left = left; projectTotal = project .0; beltTotal = belt .0 }) (drop at (now (s .entry))) ⌝ }
+    ensures { λ r. ⌜ yearSays (now (s .entry)) r ≡ summarizedYear (entry (now (factors .entry))) year left (project .0) (belt .0) (drop at (now (s .entry))) ⌝ }
     ensures { λ r. ⌜ tablesInside (now (s .entry)) r ⌝ }
     ensures { λ r. ⌜ yearFits year left r ⌝ }
 {

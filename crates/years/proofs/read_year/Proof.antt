@@ -4,16 +4,11 @@ use mathlib.Core.Path.{_≡_, _∙_, refl, sym}
 use Prim.Native.Nat.{_+_}
 use borrow.Author.Needs.{needs}
 use Rattle.classes.specs.Matrix.{entry}
-use Rattle.dossier.specs.Records.{Due}
 use Rattle.wire.specs.Bytes.{fieldAt}
 use Rattle.dossier.proofs.ReaderLaws.{not-outside}
 use Rattle.years.proofs.YearLaws.{year-no, none-left, year-other, days-wrong, days-right, fits}
 use Rattle.years.proofs.read_year.Statement.{statement}
 use Rattle.years.proofs.read_year.Tie as tie
-
--- what the caller says is due
-abbrev dueAt : tie.Start → Due
-dueAt c = record { nextYear = c .args .year; left = c .args .left; projectTotal = c .args .project .0; beltTotal = c .args .belt .0 }
 
 -- the year that was read is the one that is due
 read-due : (c : tie.Else3) → c .before .before .before .before .before .before .args .year ≡ fieldAt 2 (c .before .before .before .before .before .before .args .s .now) (c .before .before .before .before .before .before .args .at + 2)
@@ -23,10 +18,10 @@ begun-requires : tie.Need-begun-requires
 begun-requires c κs = search needs
 
 returns : tie.Need-returns
-returns c = (year-no (entry (c .before .before .before .args .factors .now)) (dueAt (c .before .before .before)) (c .before .before .before .args .s .now) (c .before .before .before .args .at) (c .before .begun .result) (c .before .begun .ensures .0) (c .if1 .taken), (tt, tt))
+returns c = (year-no (entry (c .before .before .before .args .factors .now)) _ _ _ _ (c .before .before .before .args .s .now) (c .before .before .before .args .at) (c .before .begun .result) (c .before .begun .ensures .0) (c .if1 .taken), (tt, tt))
 
 returns-2 : tie.Need-returns-2
-returns-2 c = (none-left (entry (c .before .before .before .before .args .factors .now)) (dueAt (c .before .before .before .before)) (c .before .before .before .before .args .s .now) (c .before .before .before .before .args .at) (c .before .before .begun .result) (c .before .before .begun .ensures .0) (c .before .if1 .left) (c .if2 .taken), (tt, tt))
+returns-2 c = (none-left (entry (c .before .before .before .before .args .factors .now)) _ _ _ _ (c .before .before .before .before .args .s .now) (c .before .before .before .before .args .at) (c .before .before .begun .result) (c .before .before .begun .ensures .0) (c .before .if1 .left) (c .if2 .taken), (tt, tt))
 
 add-field16 : tie.Need-add-field16
 add-field16 c = search needs
@@ -35,7 +30,7 @@ field16-requires : tie.Need-field16-requires
 field16-requires c κs = search needs
 
 returns-3 : tie.Need-returns-3
-returns-3 c = (year-other (entry (c .before .before .before .before .before .before .args .factors .now)) (dueAt (c .before .before .before .before .before .before)) (c .before .before .before .before .before .before .args .s .now) (c .before .before .before .before .before .before .args .at) (c .before .before .before .before .begun .result) (c .before .before .before .before .begun .ensures .0) (c .before .before .before .if1 .left) (c .before .before .if2 .left) _ _ (c .before .field16 .ensures .0) refl (c .if3 .taken), (tt, tt))
+returns-3 c = (year-other (entry (c .before .before .before .before .before .before .args .factors .now)) _ _ _ _ (c .before .before .before .before .before .before .args .s .now) (c .before .before .before .before .before .before .args .at) (c .before .before .before .before .begun .result) (c .before .before .before .before .begun .ensures .0) (c .before .before .before .if1 .left) (c .before .before .if2 .left) _ _ (c .before .field16 .ensures .0) refl (c .if3 .taken), (tt, tt))
 
 add-field16-2 : tie.Need-add-field16-2
 add-field16-2 c = search needs
@@ -50,7 +45,7 @@ outside-requires : tie.Need-outside-requires
 outside-requires c κs = search needs
 
 returns-4 : tie.Need-returns-4
-returns-4 c = (days-wrong (entry (c .before .before .before .before .before .before .before .before .before .before .args .factors .now)) (dueAt (c .before .before .before .before .before .before .before .before .before .before)) (c .before .before .before .before .before .before .before .before .before .before .args .s .now) (c .before .before .before .before .before .before .before .before .before .before .args .at) (c .before .before .before .before .before .before .before .before .begun .result) (c .before .before .before .before .before .before .before .before .begun .ensures .0) (c .before .before .before .before .before .before .before .if1 .left) (c .before .before .before .before .before .before .if2 .left) _ _ (read-due (c .before .before .before .before)) (c .before .before .before .field162 .ensures .0) refl _ (c .before .before .days-in-year .ensures) _ (c .before .outside .ensures) (c .if4 .taken), (tt, tt))
+returns-4 c = (days-wrong (entry (c .before .before .before .before .before .before .before .before .before .before .args .factors .now)) _ _ _ _ (c .before .before .before .before .before .before .before .before .before .before .args .s .now) (c .before .before .before .before .before .before .before .before .before .before .args .at) (c .before .before .before .before .before .before .before .before .begun .result) (c .before .before .before .before .before .before .before .before .begun .ensures .0) (c .before .before .before .before .before .before .before .if1 .left) (c .before .before .before .before .before .before .if2 .left) _ _ (read-due (c .before .before .before .before)) (c .before .before .before .field162 .ensures .0) refl _ (c .before .before .days-in-year .ensures) _ (c .before .outside .ensures) (c .if4 .taken), (tt, tt))
 
 add-read-tables : tie.Need-add-read-tables
 add-read-tables c = search needs
@@ -60,7 +55,7 @@ read-tables-requires c κs = search needs
 
 returns-5 : tie.Need-returns-5
 returns-5 c = let inside = not-outside _ _ _ (sym (c .before .before .outside .ensures) ∙ c .before .if4 .left) in (
-  c .read-tables .ensures .0 ∙ days-right (entry (c .before .before .before .before .before .before .before .before .before .before .before .args .factors .now)) (dueAt (c .before .before .before .before .before .before .before .before .before .before .before)) (c .before .before .before .before .before .before .before .before .before .before .before .args .s .now) (c .before .before .before .before .before .before .before .before .before .before .before .args .at) (c .before .before .before .before .before .before .before .before .before .begun .result) (c .before .before .before .before .before .before .before .before .before .begun .ensures .0) (c .before .before .before .before .before .before .before .before .if1 .left) (c .before .before .before .before .before .before .before .if2 .left) _ _ (read-due (c .before .before .before .before .before)) (c .before .before .before .before .field162 .ensures .0) refl _ (c .before .before .before .days-in-year .ensures) _ (c .before .before .outside .ensures) (c .before .if4 .left),
+  c .read-tables .ensures .0 ∙ days-right (entry (c .before .before .before .before .before .before .before .before .before .before .before .args .factors .now)) _ _ _ _ (c .before .before .before .before .before .before .before .before .before .before .before .args .s .now) (c .before .before .before .before .before .before .before .before .before .before .before .args .at) (c .before .before .before .before .before .before .before .before .before .begun .result) (c .before .before .before .before .before .before .before .before .before .begun .ensures .0) (c .before .before .before .before .before .before .before .before .if1 .left) (c .before .before .before .before .before .before .before .if2 .left) _ _ (read-due (c .before .before .before .before .before)) (c .before .before .before .before .field162 .ensures .0) refl _ (c .before .before .before .days-in-year .ensures) _ (c .before .before .outside .ensures) (c .before .if4 .left),
   (c .read-tables .ensures .1, fits _ (c .before .before .before .before .before .before .before .before .before .before .before .args .s .now) (c .read-tables .result) _ _ _ _ _ _ (c .read-tables .ensures .0) (c .before .before .before .before .before .before .before .if2 .left) (rw (c .before .before .before .days-in-year .ensures) at (inside .most))),
 )
 
