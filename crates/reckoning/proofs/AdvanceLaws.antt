@@ -24,9 +24,10 @@ use Rattle.figures.specs.declared.Figures.{Figures}
 use Rattle.figures.specs.Ranges.{SmallCarbon, SmallYear, SmallGrams}
 use Rattle.figures.specs.Figures.{carbonFigures}
 use Rattle.figures.proofs.FiguresLaws.{credited-small}
-use Rattle.reckoning.specs.declared.State.{State}
+use Rattle.figures.specs.declared.State.{State}
+use Rattle.figures.specs.Reckoning.{afterFigures}
 use Rattle.reckoning.specs.declared.Advanced.{Advanced}
-use Rattle.reckoning.specs.Step.{afterFigures, summaryFigures, summaryAdvanced}
+use Rattle.reckoning.specs.Step.{summaryFigures, summaryAdvanced}
 
 -- the carbon of a small region is small
 pub carbon-small : (matrix factors : List ℕ) (region : Region) (r : Projected) → RowsWithin matrix → FactorsFit factors → SmallRegion region → r ≡ projectedYear (entry factors) matrix region → SmallCarbon (r .carbon .0)

@@ -13,17 +13,17 @@ use Rattle.classes.specs.Calendar.{daysInYear}
 use Rattle.classes.proofs.MatrixLaws.{entry-tableOf}
 use Rattle.projection.specs.declared.Region.{Region}
 use Rattle.projection.specs.Projection.{projectedCarbon}
-use Rattle.figures.specs.Year.{Terms, Year}
+use Rattle.figures.specs.declared.Terms.{Terms}
+use Rattle.figures.specs.declared.State.{State}
+use Rattle.figures.specs.Year.{Year}
 use Rattle.figures.specs.Figures.{monitoredCarbon, countedFactor}
 use Rattle.figures.specs.Ranges.{SmallCarbon, SmallGrams}
-use Rattle.figures.specs.Reckoning.{regionReference, tableEmissions, yearFigures}
-use Rattle.dossier.specs.Records.{Due}
+use Rattle.figures.specs.Reckoning.{regionReference, tableEmissions, yearFigures, afterYear}
 use Rattle.dossier.specs.Reader.{Judged, refused, accepted, after, _>>=_, give}
-use Rattle.dossier.specs.Judging.{year}
+use Rattle.dossier.specs.Judging.{yearLeft, year}
 use Rattle.cursor.proofs.AtLaws.{bind-no, bind-yes, bind-bind, after-same}
 use Rattle.years.specs.declared.YearAnswer.{YearAnswer}
 use Rattle.years.specs.Answers.{Summary, summary, summarizedYear, yearSays, tablesInside, yearFits}
-use Rattle.reckoning.specs.declared.State.{State}
 use Rattle.reckoning.specs.declared.Advanced.{Advanced}
 use Rattle.reckoning.specs.Step.{yearAdvanced, summaryFigures, summaryAdvanced, steppedYear}
 
@@ -48,14 +48,14 @@ year-was-read s r due left y days p b a next j e q i f =
     let v : accepted (record { year = y; days = days; project = p; belt = b; activity = a }) (drop next s) ≡ j = rw e at q in
     record { says = rw (g .1) at v; inside = k .0; project = k .1; belt = k .2; activity = k .3; some = g .0; allowed = rw (g .1) at (g .2) }
 
-module _ (factor counted : ℕ → ℕ → ℕ) (matrix : List ℕ) (due : Due) (state : State) (u : List ℕ) where
-  pub stepped-no : (n : ℕ) → refused n ≡ summarizedYear counted due u → refused n ≡ steppedYear factor counted matrix due state u
+module _ (factor counted : ℕ → ℕ → ℕ) (matrix : List ℕ) (start beltstart : ℕ) (state : State) (u : List ℕ) where
+  pub stepped-no : (n : ℕ) → refused n ≡ summarizedYear counted (state .year) (state .left) start beltstart u → refused n ≡ steppedYear factor counted matrix start beltstart state u
   unfolding steppedYear
-  stepped-no n e = bind-no (summarizedYear counted due) _ u n e
+  stepped-no n e = bind-no (summarizedYear counted (state .year) (state .left) start beltstart) _ u n e
 
-  pub stepped-yes : (m : Summary) (v : List ℕ) (a : Advanced) → accepted m v ≡ summarizedYear counted due u → a ≡ summaryAdvanced factor matrix m state → accepted a v ≡ steppedYear factor counted matrix due state u
+  pub stepped-yes : (m : Summary) (v : List ℕ) (a : Advanced) → accepted m v ≡ summarizedYear counted (state .year) (state .left) start beltstart u → a ≡ summaryAdvanced factor matrix m state → accepted a v ≡ steppedYear factor counted matrix start beltstart state u
   unfolding steppedYear give
-  stepped-yes m v a e f = rw f (bind-yes (summarizedYear counted due) _ u m v e)
+  stepped-yes m v a e f = rw f (bind-yes (summarizedYear counted (state .year) (state .left) start beltstart) _ u m v e)
 
 -- ---- by the tables of the terms, a step is the year's own reckoning
 carbon-same : (f g : ℕ → ℕ → ℕ) (region : Region) (matrix : List ℕ) → ((i j : ℕ) → i < classes → j < classes → f i j ≡ g i j) → projectedCarbon f (region .areas) matrix ≡ projectedCarbon g (region .areas) matrix
@@ -88,13 +88,16 @@ module _ (t : Terms) (factors counted : List ℕ) (ef : factors ≡ tableOf (emi
       )
 
   advanced-same : (y : Year) (state : State) → summaryAdvanced (entry factors) (t .matrix) (summary (entry counted) y) state ≡ yearAdvanced t y state
-  unfolding summaryAdvanced yearAdvanced
+  unfolding summaryAdvanced yearAdvanced afterYear
   advanced-same y state = rw (figures-same y (state .project) (state .belt))
 
-  pub step-is : (due : Due) (state : State) (u : List ℕ) → steppedYear (entry factors) (entry counted) (t .matrix) due state u ≡ after (year due u) (λ y. give (yearAdvanced t y state))
-  unfolding steppedYear summarizedYear give _>>=_
-  step-is due state u =
-      bind-bind (year due u) _ _ ∙ after-same (year due u) _ _ (λ y v. last y v)
+  pub step-is : (state : State) (u : List ℕ)
+      → steppedYear (entry factors) (entry counted) (t .matrix) (t .start .0) (t .beltstart .0) state u ≡ after (year (record { terms = t; state = state }) u) (λ y. give (yearAdvanced t y state))
+  unfolding steppedYear summarizedYear year give _>>=_
+  step-is state u = bind-bind read _ _ ∙ after-same read _ _ (λ y v. last y v)
     where
+      read : Judged Year
+      read = yearLeft (state .year) (state .left) (t .start .0) (t .beltstart .0) u
+
       last : (y : Year) (v : List ℕ) → after (give (summary (entry counted) y) v) (λ m. give (summaryAdvanced (entry factors) (t .matrix) m state)) ≡ give (yearAdvanced t y state) v
       last y v = rw (advanced-same y state)

@@ -1,39 +1,28 @@
 -- One year's reckoning: what it does to the state that years change, and the figures it makes.
 -- Assumes nothing.
-use Prim.Native.Nat.{ℕ, _+_, _-_, _^_, _≤_, _<_}
+use Prim.Native.Nat.{ℕ, _^_, _≤_, _<_}
 use mathlib.Core.Path.{_≡_}
 use mathlib.Core.List.{List}
-use lib.IntN.{_+ℤ_}
 use lib.Signed.{mag}
 use lib.ListN.{length, drop}
 use Rattle.classes.specs.Calendar.{daysInYear}
 use Rattle.projection.specs.declared.Region.{Region}
-use Rattle.projection.specs.Projection.{projectedCarbon, projectedRegion, SmallRegion}
+use Rattle.projection.specs.Projection.{projectedCarbon, SmallRegion}
 use Rattle.figures.specs.declared.Figures.{Figures}
-use Rattle.figures.specs.Year.{Terms, Year}
+use Rattle.figures.specs.declared.Terms.{Terms}
+use Rattle.figures.specs.declared.State.{State}
+use Rattle.figures.specs.Year.{Year}
 use Rattle.figures.specs.Figures.{noFigures, carbonFigures}
-use Rattle.figures.specs.Reckoning.{yearFigures}
-use Rattle.dossier.specs.Records.{Due}
+use Rattle.figures.specs.Reckoning.{yearFigures, afterFigures, afterYear}
 use Rattle.dossier.specs.Reader.{Judged, refused, accepted, Reader, _>>=_, give}
-use Rattle.dossier.specs.Judging.{year}
 use Rattle.years.specs.Answers.{Summary, summarizedYear}
-use Rattle.reckoning.specs.declared.State.{State}
 use Rattle.reckoning.specs.declared.Advanced.{Advanced}
 use Rattle.reckoning.specs.declared.StepAnswer.{StepAnswer}
 use Rattle.reckoning.specs.declared.Stepped.{Stepped}
 
--- an accepted year: the next is due, one fewer is left, both regions are projected, and the total grows by what is credited
-unfoldable pub afterFigures : List ℕ → Figures → State → State
-afterFigures matrix figures state = record {
-  year = state .year + 1;
-  left = state .left - 1;
-  project = projectedRegion matrix (state .project);
-  belt = projectedRegion matrix (state .belt);
-  total = record { 0 = state .total .0 +ℤ figures .credited .0 };
-}
-
+-- the state after an accepted year, and its figures
 unfoldable pub yearAdvanced : Terms → Year → State → Advanced
-yearAdvanced t y state = record { state = afterFigures (t .matrix) (yearFigures t y (state .project) (state .belt)) state; figures = yearFigures t y (state .project) (state .belt) }
+yearAdvanced t y state = record { state = afterYear t y state; figures = yearFigures t y (state .project) (state .belt) }
 
 -- ---- the same from a year's summary, by tables of factors
 unfoldable pub summaryFigures : (ℕ → ℕ → ℕ) → List ℕ → Summary → (project belt : Region) → Figures
@@ -48,14 +37,10 @@ summaryAdvanced factor matrix m state = record {
 }
 
 -- the year that is due at the bytes' start, reckoned
-unfoldable pub steppedYear : (factor counted : ℕ → ℕ → ℕ) → List ℕ → Due → State → Reader Advanced
-steppedYear factor counted matrix due state = do
-  m ← summarizedYear counted due
+unfoldable pub steppedYear : (factor counted : ℕ → ℕ → ℕ) → List ℕ → (start beltstart : ℕ) → State → Reader Advanced
+steppedYear factor counted matrix start beltstart state = do
+  m ← summarizedYear counted (state .year) (state .left) start beltstart
   give (summaryAdvanced factor matrix m state)
-
--- what is due in a state, with the starting areas of project and belt
-abbrev pub dueIn : State → ℕ → ℕ → Due
-dueIn state project belt = record { nextYear = state .year; left = state .left; projectTotal = project; beltTotal = belt }
 
 -- ---- what a step answers
 abbrev pub stepJudged : List ℕ → Stepped → StepAnswer → Judged Advanced

@@ -3,8 +3,8 @@ use classes::AreaUnits;
 use classes::CarbonUnits;
 use classes::Grams;
 use figures::Figures;
+use figures::State;
 use figures::YearCarbon;
-use projection::Region;
 use years::YearAnswer;
 ghost use mathlib.Core.Path.{_≡_};
 ghost use Prim.Native.Nat.{_≤_};
@@ -13,16 +13,7 @@ ghost use Rattle.classes.specs.Matrix.{entry};
 ghost use Rattle.classes.specs.Calendar.{daysInYear};
 ghost use Rattle.projection.specs.Projection.{RowsWithin, FactorsFit};
 ghost use Rattle.figures.specs.Ranges.{SmallCarbon, SmallGrams};
-ghost use Rattle.reckoning.specs.Step.{summaryAdvanced, dueIn, steppedYear, stepSays, stepInside, SmallState};
-
-// What years change: the year that is due, the years left, both regions and the total credited.
-pub struct State {
-    pub year: u64,
-    pub left: u64,
-    pub project: Region,
-    pub belt: Region,
-    pub total: Grams,
-}
+ghost use Rattle.reckoning.specs.Step.{summaryAdvanced, steppedYear, stepSays, stepInside, SmallState};
 
 // The state after a year, and the year's figures.
 pub struct Advanced {
@@ -106,7 +97,7 @@ pub fn step(
     requires { ⌜ RowsWithin (now matrix) ⌝ }
     requires { ⌜ FactorsFit (now factors) ⌝ }
     requires { ⌜ FactorsFit (now counted) ⌝ }
-    ensures { λ r. ⌜ stepSays (now (s .entry)) r ≡ steppedYear (entry (now (factors .entry))) (entry (now (counted .entry))) (now (matrix .entry)) (dueIn state (start .0) (belt .0)) state (drop at (now (s .entry))) ⌝ }
+    ensures { λ r. ⌜ stepSays (now (s .entry)) r ≡ steppedYear (entry (now (factors .entry))) (entry (now (counted .entry))) (now (matrix .entry)) (start .0) (belt .0) state (drop at (now (s .entry))) ⌝ }
     ensures { λ r. ⌜ stepInside (now (s .entry)) state r ⌝ }
 {
     match years::read_year(s, at, state.year, state.left, start, belt, counted) {
