@@ -12,7 +12,7 @@ use lib.Seq.{drop-drop}
 use borrow.Author.Tests.{lt-ltb, le-ltb, eq-eqb, ne-eqb}
 use Rattle.wire.specs.Bytes.{number, numbers, fieldAt}
 use Rattle.dossier.specs.Reader.{Judged, refused, accepted, Reader, after, _>>=_, _>>_, give, mark, stands, present, begin, field, fields, outside, within, equal, nothing, endOfPiece}
-use Rattle.cursor.specs.Answers.{begunSays}
+use Rattle.cursor.specs.Answers.{numberSays, begunSays}
 
 -- ---- the four ways in which a record begins
 module _ (m n : ℕ) (s : List ℕ) (at : ℕ) where
@@ -36,15 +36,23 @@ module _ (m n : ℕ) (s : List ℕ) (at : ℕ) where
     unfolding begin mark present fieldAt _>>_
     begin-whole f l = let j : n ≤ length (drop (at + 2) s) = simp length-drop (omega arith) in simp (le-ltb _ _ two, eq-eqb _ _ (sym e ∙ f), le-ltb _ _ j, drop-drop)
 
--- ---- what `begun` says of a record and its fields q
+-- ---- what a number says of a reader r, and of what follows it
+module _ (r : Reader (Unit {0})) (u v : List ℕ) (n : ℕ) (h : numberSays v n ≡ r u) where
+  pub number-no : {B : Type 0} (q : Reader B) → (n ≡ 0 → ⊥) → refused n ≡ (r >> q) u
+  unfolding _>>_
+  number-no q f = rw (← h) (rw (ne-eqb n 0 f))
+
+  pub number-yes : {B : Type 0} (q : Reader B) → n ≡ 0 → q v ≡ (r >> q) u
+  unfolding _>>_
+  number-yes q f = rw (← h) (rw (eq-eqb n 0 f))
+
+-- of a record that begins at a place, and its fields q
 module _ (s : List ℕ) (at m n r : ℕ) (h : begunSays s at r ≡ begin m n (drop at s)) where
   pub begun-no : {B : Type 0} (q : Reader B) → (r ≡ 0 → ⊥) → refused r ≡ (begin m n >> q) (drop at s)
-  unfolding _>>_
-  begun-no q f = rw (← h) (rw (ne-eqb r 0 f))
+  begun-no q f = number-no (begin m n) (drop at s) (drop (at + 2) s) r h q f
 
   pub begun-yes : {B : Type 0} (q : Reader B) → r ≡ 0 → q (drop (at + 2) s) ≡ (begin m n >> q) (drop at s)
-  unfolding _>>_
-  begun-yes q f = rw (← h) (rw (eq-eqb r 0 f))
+  begun-yes q f = number-yes (begin m n) (drop at s) (drop (at + 2) s) r h q f
 
 -- ---- each step of a reader as a rule that rewrites: `simp reading` turns the fields at a place into nested tests
 pub field-is : {B : Type 0} (w : ℕ) (k : ℕ → Reader B) (s : List ℕ) (at : ℕ) → (field w >>= k) (drop at s) ≡ k (fieldAt w s at) (drop (at + w) s)
@@ -103,24 +111,40 @@ pub stands-here : (kind : ℕ → Bool) (s : List ℕ) (at x : ℕ) → 2 ≤ le
 unfolding stands fieldAt
 stands-here kind s at x h e = let k : 2 ≤ length (drop at s) = rw length-drop h in simp (le-ltb _ _ k, ← e)
 
--- ---- the end of a piece that says a, by the bytes left from a place
-module _ {A : Type 0} (a : A) (s : List ℕ) (at : ℕ) where
-  pub end-lone : length s - at ≡ 1 → refused 1 ≡ (endOfPiece >> give a) (drop at s)
-  unfolding endOfPiece _>>_
+-- ---- the end of a piece at a place
+module _ (s : List ℕ) (at : ℕ) where
+  pub end-lone : length s - at ≡ 1 → refused 1 ≡ endOfPiece (drop at s)
+  unfolding endOfPiece
   end-lone h = let k : length (drop at s) ≡ 1 = length-drop at s ∙ h in simp (eq-eqb _ _ k)
 
-  pub end-beyond : (length s - at ≡ 1 → ⊥) → 0 < length s - at → refused 2 ≡ (endOfPiece >> give a) (drop at s)
-  unfolding endOfPiece nothing _>>_
+  pub end-beyond : (length s - at ≡ 1 → ⊥) → 0 < length s - at → refused 2 ≡ endOfPiece (drop at s)
+  unfolding endOfPiece nothing
   end-beyond f h =
       let l = length-drop at s in
       let k : length (drop at s) ≡ 1 → ⊥ = λ e. f (sym l ∙ e) in
       let j : 0 < length (drop at s) = omega arith in
       simp (ne-eqb _ _ k, lt-ltb _ _ j)
 
-  pub end-here : length s - at ≤ 0 → accepted a (drop at s) ≡ (endOfPiece >> give a) (drop at s)
-  unfolding endOfPiece nothing give _>>_
+  pub end-here : length s - at ≤ 0 → accepted tt (drop at s) ≡ endOfPiece (drop at s)
+  unfolding endOfPiece nothing
   end-here h =
       let l = length-drop at s in
       let k : length (drop at s) ≡ 1 → ⊥ = λ e. omega arith in
       let j : length (drop at s) ≤ 0 = omega arith in
       simp (ne-eqb _ _ k, le-ltb _ _ j)
+
+-- ---- a value made of what was read
+pub record Made {A B : Type 0} (j : Judged A) (f : A → B) (b : B) (u : List ℕ) : Type 0 where
+  pub value : A
+  pub judged : accepted value u ≡ j
+  pub made : b ≡ f value
+
+pub made-no : {A B : Type 0} (j : Judged A) (f : A → B) (n : ℕ) → refused n ≡ after j (λ a. give (f a)) → refused n ≡ j
+unfolding give
+made-no (refused m) f n e = let k : n ≡ m = cc in rw k
+made-no (accepted a v) f n e = let z : _≡_ {A = ℕ} 0 1 = cc in absurd (omega arith)
+
+pub made-yes : {A B : Type 0} (j : Judged A) (f : A → B) (b : B) (u : List ℕ) → accepted b u ≡ after j (λ a. give (f a)) → Made j f b u
+unfolding give
+made-yes (refused m) f b u e = let z : _≡_ {A = ℕ} 0 1 = cc in absurd (omega arith)
+made-yes (accepted a v) f b u e = let k : u ≡ v = cc in let l : b ≡ f a = cc in record { value = a; judged = rw k; made = l }

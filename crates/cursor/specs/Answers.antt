@@ -1,4 +1,4 @@
--- What `begun` answers: 0 where a record begins at a place, otherwise its number.
+-- What a number says: 0 that nothing is wrong and these bytes are left, any other that it is refused.
 -- Assumes nothing.
 use Prim.Native.Nat.{ℕ, _+_}
 use mathlib.Core.Bool.{cond}
@@ -7,5 +7,9 @@ use lib.Dec.{eqb}
 use lib.ListN.{drop}
 use Rattle.dossier.specs.Reader.{Judged, refused, accepted}
 
+abbrev pub numberSays : List ℕ → ℕ → Judged (Unit {0})
+numberSays rest n = cond (eqb n 0) (accepted tt rest) (refused n)
+
+-- of a record that begins at a place: the bytes of its fields are left
 abbrev pub begunSays : List ℕ → ℕ → ℕ → Judged (Unit {0})
-begunSays s at n = cond (eqb n 0) (accepted tt (drop (at + 2) s)) (refused n)
+begunSays s at n = numberSays (drop (at + 2) s) n

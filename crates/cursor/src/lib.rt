@@ -1,9 +1,9 @@
-// What every record begins with, and the test of a range.
+// What every record begins with, how a piece ends, and the test of a range.
 ghost use mathlib.Core.Path.{_≡_};
 ghost use Prim.Native.Nat.{_+_, _*_, _≤_};
 ghost use lib.ListN.{length, drop};
-ghost use Rattle.dossier.specs.Reader.{begin, outside as outsideOf};
-ghost use Rattle.cursor.specs.Answers.{begunSays};
+ghost use Rattle.dossier.specs.Reader.{begin, endOfPiece, outside as outsideOf};
+ghost use Rattle.cursor.specs.Answers.{numberSays, begunSays};
 
 // 0 where the mark m stands at a place with n bytes of fields after it, otherwise the number 1 or 2.
 pub fn begun(s: &[u8], at: usize, m: u64, n: usize) -> u8
@@ -20,6 +20,21 @@ pub fn begun(s: &[u8], at: usize, m: u64, n: usize) -> u8
     }
     if left - 2 < n {
         return 1;
+    }
+    0
+}
+
+// 0 where the bytes end at a place, as a piece must; otherwise the number 1 or 2.
+pub fn end_of_piece(s: &[u8], at: usize) -> u8
+    requires { ⌜ at ≤ length (now s) ⌝ }
+    ensures { λ r. ⌜ numberSays (drop at (now (s .entry))) r ≡ endOfPiece (drop at (now (s .entry))) ⌝ }
+{
+    let left = s.len() - at;
+    if left == 1 {
+        return 1;
+    }
+    if 0 < left {
+        return 2;
     }
     0
 }

@@ -5,6 +5,7 @@ use mathlib.Core.Path.{_≡_, refl, _∙_, ap, sym}
 use mathlib.Core.Option.{Option}
 use mathlib.Core.List.{List, [], _∷_}
 use lib.IntN.{pos}
+use lib.ListN.{drop}
 use Rattle.wire.specs.Bytes.{total}
 use Rattle.classes.specs.declared.AreaUnits.{AreaUnits}
 use Rattle.classes.specs.Classes.{carbonStocks}
@@ -14,13 +15,15 @@ use Rattle.figures.specs.declared.Terms.{Terms}
 use Rattle.figures.specs.declared.State.{State}
 use Rattle.dossier.specs.Marks.{DA}
 use Rattle.dossier.specs.Records.{Head, Opening, units, matrixInUse, termsOf, stateOf, Due, settled}
-use Rattle.dossier.specs.Reader.{Judged, refused, accepted, after, _>>=_, give}
+use Rattle.dossier.specs.Reader.{Judged, refused, accepted, _>>=_, _>>_, give, endOfPiece}
 use Rattle.dossier.specs.JudgingRecords.{areas, matrixUnder}
-use Rattle.dossier.specs.Judging.{opening}
+use Rattle.dossier.specs.Judging.{opening, openingPiece}
 use Rattle.dossier.specs.JudgingRecords.{head}
-use Rattle.cursor.proofs.AtLaws.{bind-no, bind-yes}
+use Rattle.cursor.specs.Answers.{numberSays}
+use Rattle.cursor.proofs.AtLaws.{number-no, number-yes, bind-no, bind-yes, bind-bind, after-same}
+use Rattle.opening.specs.declared.OpeningAnswer.{OpeningAnswer}
 use Rattle.opening.specs.declared.Opened.{Opened}
-use Rattle.opening.specs.Answers.{amounts, noOpening, openedSays, openedInside, settledOpening, fromBelt, fromAreas}
+use Rattle.opening.specs.Answers.{amounts, noOpening, openedSays, openedInside, settledOpening, settledPiece, fromBelt, fromAreas}
 
 pub opening-refused : (s : List ℕ) (r : Opened) (n : ℕ) (j : Judged Due) → r ≡ noOpening n → refused n ≡ j → (openedSays s r ≡ j) × openedInside s r
 opening-refused s r n j e q = rw e (q, refl)
@@ -61,11 +64,27 @@ module _ (h : Head) (project u belt v : List ℕ) (e : accepted belt v ≡ areas
   unfolding fromBelt settled give
   opening-read terms state m w f p q = rw (p, q) (bind-yes (matrixUnder (h .option)) _ v m w f ∙ bind-yes (areas DA 0) _ u belt v e)
 
-after-after : {A B C : Type 0} (j : Judged A) (f : A → List ℕ → Judged B) (g : B → List ℕ → Judged C) → after (after j f) g ≡ after j (λ a u. after (f a u) g)
-after-after (refused n) f g = refl
-after-after (accepted a u) f g = refl
-
 -- what an opening settles, HD first
 pub settled-is : (s : List ℕ) → (head >>= fromAreas) s ≡ settledOpening s
 unfolding settledOpening opening fromAreas fromBelt give _>>=_
-settled-is s = sym (simp after-after)
+settled-is s = sym (simp bind-bind)
+
+-- what an opening piece settles: the opening, then its end
+pub piece-settled : (s : List ℕ) → (settledOpening >>= λ due. endOfPiece >> give due) s ≡ settledPiece s
+unfolding settledOpening settledPiece openingPiece give _>>=_ _>>_
+piece-settled s = bind-bind (opening s) _ _ ∙ after-same (opening s) _ _ (λ o u. sym (bind-bind (endOfPiece u) _ _)) ∙ sym (bind-bind (opening s) _ _)
+
+module _ (s : List ℕ) (r : Opened) (says : openedSays s r ≡ settledOpening s) where
+  pub piece-no : (n : ℕ) → r .answer ≡ OpeningAnswer.Refused n → refused n ≡ settledPiece s
+  piece-no n e = bind-no settledOpening _ s n (rw e at says) ∙ piece-settled s
+
+  module _ (next : ℕ) (e : r .answer ≡ OpeningAnswer.Read next) (n : ℕ) (ends : numberSays (drop next s) n ≡ endOfPiece (drop next s)) where
+    was-read : accepted (record { terms = r .terms; state = r .state }) (drop next s) ≡ settledOpening s
+    was-read = rw e at says
+
+    pub piece-fault : (n ≡ 0 → ⊥) → refused n ≡ settledPiece s
+    piece-fault f = number-no endOfPiece (drop next s) (drop next s) n ends _ f ∙ bind-yes settledOpening _ s _ (drop next s) was-read ∙ piece-settled s
+
+    pub piece-read : n ≡ 0 → openedSays s r ≡ settledPiece s
+    unfolding give
+    piece-read f = rw e (number-yes endOfPiece (drop next s) (drop next s) n ends _ f ∙ bind-yes settledOpening _ s _ (drop next s) was-read ∙ piece-settled s)

@@ -13,7 +13,7 @@ use Rattle.dossier.specs.Marks.{PA, DA}
 use Rattle.dossier.specs.Reader.{Judged, refused, accepted, Reader, _>>=_, give}
 use Rattle.dossier.specs.Records.{Head, matrixInUse, emptyTerms, emptyState, Due, settled}
 use Rattle.dossier.specs.JudgingRecords.{areas, matrixUnder}
-use Rattle.dossier.specs.Judging.{opening}
+use Rattle.dossier.specs.Judging.{opening, openingPiece}
 use Rattle.opening.specs.declared.Head.{Head as HeadFields}
 use Rattle.opening.specs.declared.HeadAnswer.{HeadAnswer}
 use Rattle.opening.specs.declared.AreasAnswer.{AreasAnswer}
@@ -116,12 +116,19 @@ openedFacts s r (OpeningAnswer.Refused n) = r ≡ noOpening n
 abbrev pub openedInside : List ℕ → Opened → Type 0
 openedInside s r = openedFacts s r (r .answer)
 
--- what an opening settles; from DA on, after HD and PA; from PA on, after HD
+-- what an opening settles
 unfoldable pub settledOpening : Reader Due
 settledOpening = do
   o ← opening
   give (settled o)
 
+-- of an opening piece, after which nothing follows
+unfoldable pub settledPiece : Reader Due
+settledPiece = do
+  o ← openingPiece
+  give (settled o)
+
+-- from DA on, after HD and PA; from PA on, after HD
 unfoldable pub fromBelt : Head → List ℕ → Reader Due
 fromBelt h project = do
   belt ← areas DA 0

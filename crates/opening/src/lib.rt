@@ -12,7 +12,7 @@ ghost use Rattle.projection.specs.Projection.{openedRegion};
 ghost use Rattle.wire.specs.Bytes.{numbers, total};
 ghost use Rattle.dossier.specs.JudgingRecords.{head, areas as judgedAreas, matrix as judgedMatrix, matrixUnder};
 ghost use Rattle.opening.specs.Answers.{headFields, headSays, headInside, amounts, noAreas, areasSays, areasInside, noMatrix, matrixSays, matrixInside};
-ghost use Rattle.opening.specs.Answers.{matrixUnderSays, matrixUnderInside, noOpening, openedSays, openedInside, settledOpening, fromBelt, fromAreas};
+ghost use Rattle.opening.specs.Answers.{matrixUnderSays, matrixUnderInside, noOpening, openedSays, openedInside, settledOpening, settledPiece, fromBelt, fromAreas};
 
 const HD: u64 = 0x4844;
 
@@ -219,7 +219,8 @@ fn at_inception(areas: [AreaUnits; 12]) -> Region
     }
 }
 
-fn no_opening(n: u8) -> Opened
+// A refused opening: all zeros.
+pub fn no_opening(n: u8) -> Opened
     ensures { λ r. ⌜ r ≡ noOpening n ⌝ }
 {
     let none = at_inception([AreaUnits(0); 12]);
@@ -312,5 +313,24 @@ pub fn read_opening(s: &[u8]) -> Opened
     match read_head(s) {
         HeadAnswer::Refused(n) => no_opening(n),
         HeadAnswer::Read { head, next } => with_areas(s, next, head),
+    }
+}
+
+// An opening piece: the opening, and nothing after it.
+pub fn read_piece(s: &[u8]) -> Opened
+    ensures { λ r. ⌜ openedSays (now (s .entry)) r ≡ settledPiece (now (s .entry)) ⌝ }
+    ensures { λ r. ⌜ openedInside (now (s .entry)) r ⌝ }
+{
+    let opened = read_opening(s);
+    let answer = opened.answer;
+    match answer {
+        OpeningAnswer::Refused(n) => no_opening(n),
+        OpeningAnswer::Read(next) => {
+            let fault = cursor::end_of_piece(s, next);
+            if fault != 0 {
+                return no_opening(fault);
+            }
+            opened
+        }
     }
 }
