@@ -15,7 +15,7 @@ use Rattle.classes.specs.Calendar.{daysInYear}
 use Rattle.figures.specs.Year.{Year}
 use Rattle.wire.specs.Bytes.{fieldAt}
 use Rattle.dossier.specs.Marks.{YR, CP, CD}
-use Rattle.dossier.specs.Reader.{Judged, refused, accepted, Reader, after, _>>=_, _>>_, give, refuse, begin, outside}
+use Rattle.dossier.specs.Reader.{Judged, refused, accepted, numberOf, Reader, after, _>>=_, _>>_, give, begin, outside}
 use Rattle.dossier.specs.JudgingRecords.{conversions}
 use Rattle.dossier.specs.Judging.{activities, noneLeft, yearRecords, yearLeft}
 use Rattle.cursor.specs.Answers.{begunSays}
@@ -24,6 +24,7 @@ use Rattle.dossier.proofs.ReaderLaws.{step, was}
 use Rattle.activities.specs.declared.RunAnswer.{RunAnswer}
 use Rattle.activities.specs.Answers.{Summed, summedActivities, runSays, runInside}
 use Rattle.figures.specs.Ranges.{SmallCarbon, SmallGrams}
+use Rattle.years.proofs.EndLaws.{none-left-is}
 use Rattle.years.specs.declared.TableAnswer.{TableAnswer}
 use Rattle.years.specs.declared.YearAnswer.{YearAnswer}
 use Rattle.years.specs.Answers.{monitoredTable, tableSays, tableInside, Summary, summary, summarizedYear, summarizedRecords, summarizedTables, yearSays, recordsInside, tablesInside, yearFits}
@@ -64,20 +65,16 @@ tables-summarized factor calendarYear days projectTotal beltTotal u =
     ∙ sym (bind-bind (conversions CP projectTotal u) _ _)
 
 -- ---- YR
+pub year-none : (factor : ℕ → ℕ → ℕ) (due left start beltstart : ℕ) (u : List ℕ) (n : ℕ) → left ≡ 0 → n ≡ numberOf (noneLeft {A = Unit {0}} u) → refused n ≡ summarizedYear factor due left start beltstart u
+unfolding summarizedYear yearLeft
+year-none factor due left start beltstart u n e g = bind-no (yearLeft due left start beltstart) _ u n (rw (eq-eqb left 0 e, g) (sym (none-left-is u)))
+
 module _ (factor : ℕ → ℕ → ℕ) (due left start beltstart : ℕ) (s : List ℕ) (at r : ℕ) (h : begunSays s at r ≡ begin YR 4 (drop at s)) where
-  pub year-no : (r ≡ 0 → ⊥) → refused r ≡ summarizedYear factor due left start beltstart (drop at s)
-  unfolding summarizedYear yearLeft noneLeft yearRecords
-  year-no f = bind-no (yearLeft due left start beltstart) _ (drop at s) r (go (eqb left 0))
-    where
-      go : (b : Bool) → refused r ≡ cond b noneLeft (yearRecords due start beltstart) (drop at s)
-      go true = begun-no s at YR 4 r h _ f
-      go false = begun-no s at YR 4 r h _ f
+  pub year-no : (left ≡ 0 → ⊥) → (r ≡ 0 → ⊥) → refused r ≡ summarizedYear factor due left start beltstart (drop at s)
+  unfolding summarizedYear yearLeft yearRecords
+  year-no some f = bind-no (yearLeft due left start beltstart) _ (drop at s) r (rw (ne-eqb left 0 some) (begun-no s at YR 4 r h _ f))
 
   module _ (z : r ≡ 0) where
-    pub none-left : left ≡ 0 → refused 6 ≡ summarizedYear factor due left start beltstart (drop at s)
-    unfolding summarizedYear yearLeft noneLeft refuse
-    none-left e = bind-no (yearLeft due left start beltstart) _ (drop at s) 6 (rw (eq-eqb left 0 e) (begun-yes s at YR 4 r h (refuse 6) z))
-
     module _ (some : left ≡ 0 → ⊥) (y d : ℕ) (ey : y ≡ fieldAt 2 s (at + 2)) (ed : d ≡ fieldAt 2 s (at + 4)) where
       tables : Reader Year
       tables = conversions CP start >>= λ p. conversions CD beltstart >>= λ b. activities [] >>= λ l. give (record { year = y; operatingDays = d; conversions = p; beltConversions = b; activities = l })

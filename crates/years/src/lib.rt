@@ -3,10 +3,14 @@ use classes::AreaUnits;
 use classes::CarbonUnits;
 use classes::Grams;
 ghost use mathlib.Core.Path.{_≡_};
-ghost use Prim.Native.Nat.{_≤_};
+ghost use Prim.Native.Nat.{_≤_, _<_};
 ghost use lib.ListN.{length, drop};
 ghost use Rattle.classes.specs.Matrix.{entry};
+ghost use mathlib.Core.List.{[]};
 ghost use Rattle.projection.specs.Projection.{FactorsFit};
+ghost use Rattle.dossier.specs.Reader.{numberOf};
+ghost use Rattle.dossier.specs.Judging.{noneLeft, end};
+ghost use Rattle.cursor.specs.Answers.{numberSays};
 ghost use Rattle.years.specs.Answers.{monitoredTable, tableSays, tableInside, summarizedRecords, summarizedTables, summarizedYear, yearSays, recordsInside, tablesInside, yearFits};
 
 const YR: u64 = 0x5952;
@@ -14,6 +18,8 @@ const YR: u64 = 0x5952;
 const CP: u64 = 0x4350;
 
 const CD: u64 = 0x4344;
+
+const EN: u64 = 0x454e;
 
 enum TableAnswer {
     Read { carbon: CarbonUnits, next: usize },
@@ -122,6 +128,40 @@ fn read_records(
     }
 }
 
+// Where no year is left: 1 or 2 unless YR stands at a place, complete, and then 6.
+fn none_left(s: &[u8], at: usize) -> u8
+    requires { ⌜ at ≤ length (now s) ⌝ }
+    ensures { λ r. ⌜ (r ≡ numberOf (noneLeft {A = Unit {0}} (drop at (now (s .entry))))) × (0 < r) ⌝ }
+{
+    let fault = cursor::begun(s, at, YR, 4);
+    if fault != 0 {
+        return fault;
+    }
+    6
+}
+
+// EN from at and nothing after it, once all years are read: 0, or the number of the fault. YR stays due there.
+pub fn read_end(s: &[u8], at: usize) -> u8
+    requires { ⌜ at ≤ length (now s) ⌝ }
+    ensures { λ r. ⌜ numberSays [] r ≡ end (drop at (now (s .entry))) ⌝ }
+{
+    let left = s.len() - at;
+    if left < 2 {
+        return 1;
+    }
+    let m = wire::field16(s, at);
+    if m == YR {
+        return none_left(s, at);
+    }
+    if m != EN {
+        return 2;
+    }
+    if 2 < left {
+        return 2;
+    }
+    0
+}
+
 // YR to the last activity record, from at: year is due, left years are left, and project and belt are the totals of PA and DA.
 pub fn read_year(
     s: &[u8],
@@ -138,12 +178,12 @@ pub fn read_year(
     ensures { λ r. ⌜ tablesInside (now (s .entry)) r ⌝ }
     ensures { λ r. ⌜ yearFits year left r ⌝ }
 {
+    if left == 0 {
+        return YearAnswer::Refused(none_left(s, at));
+    }
     let fault = cursor::begun(s, at, YR, 4);
     if fault != 0 {
         return YearAnswer::Refused(fault);
-    }
-    if left == 0 {
-        return YearAnswer::Refused(6);
     }
     if wire::field16(s, at + 2) != year {
         return YearAnswer::Refused(6);
