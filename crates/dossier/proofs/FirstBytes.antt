@@ -17,7 +17,7 @@ use Rattle.dossier.specs.Marks.{FU, VE, NI, YR, EN}
 use Rattle.dossier.specs.Records.{Due, next, Dossier}
 use Rattle.dossier.specs.Reader.{Judged, refused, accepted, Reader, _>>=_, _>>_, give, is, begin}
 use Rattle.dossier.specs.JudgingRecords.{head, areas, rows, matrix, matrixUnder, conversions, fuel, vehicles, nitrogen, lime, activityMark, activity}
-use Rattle.dossier.specs.Judging.{opening, run, activities, noneLeft, yearRecords, yearLeft, year, end, years, dossier, callNumber}
+use Rattle.dossier.specs.Judging.{opening, run, activities, noneLeft, yearRecords, yearLeft, year, end, years, dossier}
 use Rattle.wire.proofs.BytesLaws.{bytes-take}
 use Rattle.dossier.proofs.OpeningLaws.{opening-exact}
 use Rattle.dossier.proofs.Longest.{longest}
@@ -136,8 +136,3 @@ first-bytes-settle s bs = go (ltb 65536 (length s)) (ltb-true _ _) (ltb-false _ 
     go : (b : Bool) → (b ≡ true → 65536 < length s) → (b ≡ false → length s ≤ 65536) → dossier (take 65536 s) ≡ dossier s
     go true f g = sym (long-alike (take 65536 s) (drop 65536 s) (bytes-take 65536 s bs) (cut (omega (arith, f refl)))) ∙ ap dossier (take-append-drop 65536 s)
     go false f g = ap dossier (take-all 65536 s (g refl))
-
--- so the number of the whole call, for any buffer
-pub same-number : (s : List ℕ) → Bytes s → (size : ℕ) → callNumber (take 65536 s) size ≡ callNumber s size
-unfolding callNumber
-same-number s bs size = rw (first-bytes-settle s bs)

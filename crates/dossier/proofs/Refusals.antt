@@ -15,7 +15,7 @@ use Rattle.dossier.specs.Marks.{YR, EN}
 use Rattle.dossier.specs.Records.{Due, Dossier}
 use Rattle.dossier.specs.Reader.{refused, accepted, Reader, after, _>>=_, _>>_, refuse, mark, stands, is, upon, present, begin, nothing, endOfPiece}
 use Rattle.dossier.specs.JudgingRecords.{activityMark}
-use Rattle.dossier.specs.Judging.{run, activities, noneLeft, yearRecords, yearLeft, year, end, dossier, bufferNumber, callNumber}
+use Rattle.dossier.specs.Judging.{run, activities, noneLeft, yearRecords, yearLeft, year, end}
 use Rattle.dossier.proofs.ReaderLaws.{no, was, mark-yes, stands-bytes}
 
 -- the causes of bytes have the numbers 1 to 9
@@ -109,16 +109,3 @@ pub piece-ends-only : (s : List ℕ) {x : Unit {0}} {t : List ℕ} → endOfPiec
 piece-ends-only [] e = (refl, sym (was (sym piece-ends ∙ e) .1))
 piece-ends-only (b ∷ []) e = no _ _ _ (sym (lone-byte b) ∙ e)
 piece-ends-only (b ∷ c ∷ s) e = no _ _ _ (sym (beyond-piece b c s) ∙ e)
-
--- "10 comes last": the dossier's own number counts before the buffer's
-pub buffer-last : (s : List ℕ) (size n : ℕ) → dossier s ≡ refused n → callNumber s size ≡ n
-unfolding callNumber
-buffer-last s size n e = rw e
-
-pub buffer-short : (s : List ℕ) (size : ℕ) {d : Dossier} {rest : List ℕ} → dossier s ≡ accepted d rest → size < 64 * d .opening .head .years + 32 → callNumber s size ≡ 10
-unfolding callNumber bufferNumber
-buffer-short s size e h = rw e (simp (lt-ltb _ _ h))
-
-pub buffer-enough : (s : List ℕ) (size : ℕ) {d : Dossier} {rest : List ℕ} → dossier s ≡ accepted d rest → 64 * d .opening .head .years + 32 ≤ size → callNumber s size ≡ 0
-unfolding callNumber bufferNumber
-buffer-enough s size e h = rw e (simp (le-ltb _ _ h))

@@ -93,19 +93,3 @@ yearPiece due = do
   y ← year due
   endOfPiece
   give y
-
--- "buffer under 64 × n + 32 bytes": 10
-abbrev pub tooShort : (n size : ℕ) → Bool
-tooShort n size = ltb size (64 * n + 32)
-
-unfoldable pub bufferNumber : ℕ → ℕ → ℕ
-bufferNumber n size = cond (tooShort n size) 10 0
-
--- "10 comes last": only where the dossier is accepted
-abbrev pub bufferLast : Judged Dossier → ℕ → ℕ
-bufferLast (refused n) size = n
-bufferLast (accepted d rest) size = bufferNumber (d .opening .head .years) size
-
--- the number of the whole call, for its bytes and the size of its buffer: 0 where it is accepted
-unfoldable pub callNumber : List ℕ → ℕ → ℕ
-callNumber s size = bufferLast (dossier s) size

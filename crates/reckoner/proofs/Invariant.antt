@@ -4,7 +4,7 @@ use Prim.Native.Nat.{ℕ, _+_, _*_, _^_, _≤_, _<_}
 use mathlib.Core.Path.{_≡_, refl, _∙_}
 use mathlib.Core.Bool.{Bool, true, false}
 use mathlib.Core.Option.{Option, none, some}
-use mathlib.Core.List.{List}
+use mathlib.Core.List.{List, [], _∷_}
 use native.Mathlib.Nat.{le-of-eq}
 use native.Mathlib.Omega.{arith}
 use lib.Dec.{eqb}
@@ -15,36 +15,38 @@ use borrow.Author.Tests.{eqb-true, eqb-false}
 use Rattle.arithmetic.specs.Sum.{sum}
 use Rattle.arithmetic.proofs.SumLaws.{sum-cong, sum-const, length-listed}
 use Rattle.arithmetic.proofs.IntegerLaws.{mag-plus}
+use Rattle.arithmetic.proofs.TableLaws.{atMost, entry-le}
 use Rattle.classes.specs.Classes.{classes}
 use Rattle.classes.specs.Matrix.{entry, RowsSum, optionOneMatrix}
 use Rattle.classes.proofs.MatrixLaws.{option-one-rows}
+use Rattle.classes.proofs.FactorLaws.{built-in-le}
 use Rattle.projection.specs.Projection.{RowsWithin}
 use Rattle.figures.specs.declared.Figures.{Figures}
 use Rattle.figures.specs.Figures.{noFigures}
 use Rattle.figures.specs.Year.{Year}
-use Rattle.figures.specs.Reckoning.{yearFigures}
+use Rattle.figures.specs.Reckoning.{yearFigures, afterFigures, afterYear}
 use Rattle.figures.proofs.FiguresLaws.{FiguresSmall}
 use Rattle.wire.specs.Bytes.{Bytes, total}
-use Rattle.dossier.specs.Records.{Opening, OpeningInRange, MatrixUnder, DueInRange, YearInRange}
+use Rattle.dossier.specs.Records.{Opening, OpeningInRange, MatrixUnder, matrixInUse, termsOf, stateOf, emptyTerms, emptyState, settled, next, DueInRange, YearInRange, YearsInRange, Dossier, DossierInRange}
 use Rattle.dossier.specs.Reader.{Judged, refused, accepted}
-use Rattle.dossier.specs.Judging.{openingPiece, yearPiece}
-use Rattle.dossier.proofs.WellFormed.{opening-accepted, year-accepted}
-use Rattle.opening.specs.Answers.{matrixInUse}
-use Rattle.reckoning.specs.Step.{yearAdvanced, afterFigures, SmallState}
+use Rattle.dossier.specs.Judging.{dossier, openingPiece, yearPiece}
+use Rattle.dossier.proofs.WellFormed.{dossier-accepted, opening-accepted, year-accepted}
+use Rattle.reckoning.specs.Step.{yearAdvanced, SmallState}
 use Rattle.reckoner.specs.declared.Ledger.{Ledger}
-use Rattle.reckoner.specs.Ledger.{openedWith, emptyLedger, openedLedger, termsOf, dueOf, givenYear, Closable}
-use Rattle.reckoner.specs.Calls.{openJudged, openCall, yearJudged, yearCall, HandedBack, opened, given}
+use Rattle.reckoner.specs.Ledger.{newLedger, emptyLedger, openedLedger, dueOf, givenYear, givenYears, ledgerOf, Closable}
+use Rattle.reckoner.specs.Calls.{openJudged, openCall, yearJudged, yearCall, dossierJudged, dossierCall, HandedBack, opened, given, whole}
 use Rattle.reckoner.proofs.YearRanges.{figures-range}
 use Rattle.reckoner.proofs.RegionKept.{RegionKept, zero-region, opened-region, projected-kept}
 
 pub record LedgerKept (l : Ledger) : Type 0 where
   pub count : l .given + l .state .left ≤ 20
   pub years : l .state .year + l .state .left < 65536
-  pub project : RegionKept (l .start .0) (l .state .project)
-  pub belt : RegionKept (l .beltstart .0) (l .state .belt)
+  pub project : RegionKept (l .terms .start .0) (l .state .project)
+  pub belt : RegionKept (l .terms .beltstart .0) (l .state .belt)
   pub total : mag (l .state .total .0) ≤ 2 ^ 56 * l .given
-  pub rows : RowsWithin (l .matrix)
-  pub places : length (l .matrix) ≡ 144
+  pub stocks : (i : ℕ) → getD (l .terms .stocks) i 0 ≤ 65535
+  pub rows : RowsWithin (l .terms .matrix)
+  pub places : length (l .terms .matrix) ≡ 144
   pub twenty : length (l .figures) ≡ 20
   pub figures : (k : ℕ) → k < l .given → FiguresSmall (getD (l .figures) k noFigures)
 
@@ -54,7 +56,7 @@ state-kept l k = record { year = omega arith; project = omega (arith, k .project
 
 pub due-kept : (l : Ledger) → LedgerKept l → DueInRange (dueOf l)
 unfolding dueOf
-due-kept l k = record { nextYear = omega arith; projectTotal = k .project .small; beltTotal = k .belt .small }
+due-kept l k = record { year = omega arith; start = k .project .small; beltstart = k .belt .small }
 
 pub closable : (l : Ledger) → LedgerKept l → Closable l
 closable l k = record { years = omega (arith, k .count); balance = omega (arith, k .project); beltBalance = omega (arith, k .belt) }
@@ -63,14 +65,19 @@ closable l k = record { years = omega (arith, k .count); balance = omega (arith,
 zero-row : (i : ℕ) → i < classes → sum classes (entry (replicate 144 0) i) ≡ 0
 zero-row i h = sum-cong classes (entry (replicate 144 0) i) (λ j. 0) (λ j k. getD-replicate 144 (12 * i + j) 0 0 (omega arith)) ∙ sum-const classes 0
 
+zero-stocks : (i : ℕ) → getD (replicate 12 0) i 0 ≤ 65535
+unfolding atMost
+zero-stocks = entry-le 65535 (replicate 12 0) tt
+
 pub empty-kept : LedgerKept emptyLedger
-unfolding emptyLedger openedWith
+unfolding emptyLedger newLedger emptyTerms emptyState
 empty-kept = record {
   count = omega arith;
   years = omega arith;
   project = zero-region;
   belt = zero-region;
   total = omega arith;
+  stocks = zero-stocks;
   rows = λ i h. omega (arith, zero-row i h);
   places = length-replicate {A = ℕ} 144 0;
   twenty = length-replicate 20 noFigures;
@@ -89,13 +96,14 @@ in-use-places option none h = length-listed 144 _
 in-use-places option (some matrix) h = h .1 .count
 
 pub opened-kept : (o : Opening) → OpeningInRange o → LedgerKept (openedLedger o)
-unfolding openedLedger openedWith
+unfolding openedLedger newLedger termsOf stateOf
 opened-kept o h = record {
   count = omega (arith, h .head .count);
   years = omega (arith, h .head .firstYears, h .head .count);
   project = opened-region (o .projectAreas) (h .projectAreas .twelve) (h .projectAreas .totals .most);
   belt = opened-region (o .beltAreas) (h .beltAreas .twelve) (h .beltAreas .totals .most);
   total = omega arith;
+  stocks = λ i. omega (arith, built-in-le i);
   rows = λ i k. le-of-eq (in-use-rows (o .head .option) (o .matrix) (h .matrix) i k);
   places = in-use-places (o .head .option) (o .matrix) (h .matrix);
   twenty = length-replicate 20 noFigures;
@@ -104,13 +112,14 @@ opened-kept o h = record {
 
 -- ---- a year given
 pub given-kept : (l : Ledger) → LedgerKept l → (y : Year) → YearInRange (dueOf l) y → LedgerKept (givenYear y l)
-unfolding givenYear yearAdvanced afterFigures termsOf dueOf
+unfolding givenYear yearAdvanced afterYear afterFigures dueOf
 given-kept l k y h = record {
   count = omega (arith, k .count, h .left);
   years = omega (arith, k .years, h .left);
-  project = projected-kept (l .matrix) (k .rows) (l .start .0) (l .state .project) (k .project);
-  belt = projected-kept (l .matrix) (k .rows) (l .beltstart .0) (l .state .belt) (k .belt);
+  project = projected-kept (l .terms .matrix) (k .rows) (l .terms .start .0) (l .state .project) (k .project);
+  belt = projected-kept (l .terms .matrix) (k .rows) (l .terms .beltstart .0) (l .state .belt) (k .belt);
   total = omega (arith, k .total, small .credited, mag-plus (l .state .total .0) (f .credited .0));
+  stocks = k .stocks;
   rows = k .rows;
   places = k .places;
   twenty = simp length-set (k .twenty);
@@ -118,14 +127,20 @@ given-kept l k y h = record {
 }
   where
     f : Figures
-    f = yearFigures (termsOf l) y (l .state .project) (l .state .belt)
+    f = yearFigures (l .terms) y (l .state .project) (l .state .belt)
 
     small : FiguresSmall f
-    small = figures-range (l .option) (l .matrix) (k .rows) (dueOf l) (due-kept l k) y h (l .state .project) (l .state .belt) (omega (arith, k .project)) (omega (arith, k .belt))
+    small = figures-range (l .terms) (k .stocks) (k .rows) (dueOf l) (due-kept l k) y h (l .state .project) (l .state .belt) (omega (arith, k .project)) (omega (arith, k .belt))
 
     go : (i : ℕ) → i < l .given + 1 → (b : Bool) → eqb i (l .given) ≡ b → FiguresSmall (getD (set (l .figures) (l .given) f) i noFigures)
     go i g true e = rw (eqb-true i (l .given) e, getD-set-same (l .figures) (l .given) f noFigures (omega (arith, k .count, h .left, k .twenty))) small
     go i g false e = rw (getD-set-other (l .figures) (l .given) i f noFigures (eqb-false i (l .given) e)) (k .figures i (omega (arith, eqb-false i (l .given) e)))
+
+-- years given one after the other, each judged against what is due by then
+pub years-kept : (l : Ledger) → LedgerKept l → (ys : List Year) → YearsInRange (dueOf l) ys → LedgerKept (givenYears ys l)
+unfolding givenYears
+years-kept l k [] h = k
+years-kept l k (y ∷ ys) h = years-kept (givenYear y l) (given-kept l k y (h .0)) ys (unfold givenYear yearAdvanced dueOf next in h .1)
 
 -- ---- the calls
 pub open-kept : (piece : List ℕ) → Bytes piece → LedgerKept (openCall piece .ledger)
@@ -144,7 +159,19 @@ year-kept l k piece b = go (yearPiece (dueOf l) piece) refl
     go (refused n) e = k
     go (accepted y rest) e = given-kept l k y (year-accepted (dueOf l) (due-kept l k) .sound piece b y rest e .0)
 
+pub dossier-kept : (s : List ℕ) → Bytes s → LedgerKept (dossierCall s .ledger)
+unfolding dossierCall
+dossier-kept s b = go (dossier s) refl
+  where
+    of : (d : Dossier) → DossierInRange d → LedgerKept (ledgerOf d)
+    of d h = unfold ledgerOf in years-kept (openedLedger (d .opening)) (opened-kept (d .opening) (h .opening)) (d .years) (unfold openedLedger newLedger dueOf settled in h .years)
+
+    go : (j : Judged Dossier) → dossier s ≡ j → LedgerKept (dossierJudged j .ledger)
+    go (refused n) e = empty-kept
+    go (accepted d rest) e = of d (dossier-accepted .sound s b d rest e .0)
+
 -- every ledger that the calls hand back
 pub handed-kept : {l : Ledger} → HandedBack l → LedgerKept l
 handed-kept (opened piece b) = open-kept piece b
 handed-kept (given {l} h piece b) = year-kept l (handed-kept h) piece b
+handed-kept (whole s b) = dossier-kept s b

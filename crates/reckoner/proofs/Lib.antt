@@ -3,5 +3,6 @@ pub mod RegionKept
 pub mod Invariant
 pub mod OpenLaws
 pub mod YearLaws
-pub mod EndLaws
-pub mod ReckonLaws
+pub mod DossierLaws
+pub mod CloseLaws
+pub mod Numbers

@@ -13,7 +13,7 @@ use Rattle.projection.specs.Projection.{area, areaTotal, nextAreas, openedRegio
 use Rattle.projection.proofs.ProjectionLaws.{areas-kept}
 use Rattle.wire.specs.Bytes.{total}
 use Rattle.dossier.proofs.LoopLaws.{total-entries}
-use Rattle.reckoner.specs.Ledger.{units}
+use Rattle.dossier.specs.Records.{units}
 
 -- a region that started from an area, with a place for each class
 pub record RegionKept (start : ℕ) (region : Region) : Type 0 where
@@ -22,7 +22,7 @@ pub record RegionKept (start : ℕ) (region : Region) : Type 0 where
   pub twelve : length (region .areas) ≡ 12
 
 -- all areas 0
-pub zero-region : RegionKept 0 (openedRegion (replicate 12 (record { 0 = 0 })))
+pub zero-region : RegionKept 0 (openedRegion (units (replicate 12 0)))
 unfolding sum openedRegion
 zero-region = record { whole = refl; small = omega arith; twelve = refl }
 

@@ -2,9 +2,8 @@
 -- Assumes nothing.
 use borrow.Author.Tests.{lt-ltb, le-ltb}
 use borrow.Author.Needs.{needs}
-use Rattle.dossier.specs.Judging.{bufferNumber}
 use Rattle.reckoner.specs.Ledger.{report}
-use Rattle.reckoner.specs.Calls.{closedBuffer}
+use Rattle.reckoner.specs.Calls.{closeCall, closedBuffer}
 use Rattle.reckoner.proofs.write_ledger.Statement.{statement}
 use Rattle.reckoner.proofs.write_ledger.Tie as tie
 
@@ -15,7 +14,7 @@ add-if1 : tie.Need-add-if1
 add-if1 c = search needs
 
 returns : tie.Need-returns
-unfolding bufferNumber closedBuffer
+unfolding closeCall closedBuffer
 returns c = let t = lt-ltb _ _ (c .if1 .taken) in (simp t, simp t)
 
 write-report-requires : tie.Need-write-report-requires
@@ -25,7 +24,7 @@ same-length : tie.Need-same-length
 same-length c = search needs
 
 returns-2 : tie.Need-returns-2
-unfolding bufferNumber closedBuffer report
+unfolding closeCall closedBuffer report
 returns-2 c = let t = le-ltb _ _ (c .before .before .before .before .before .before .before .before .before .before .before .if1 .left) in (simp t, simp t (c .before .before .write-report .ensures))
 
 pub write-ledger-spec : {M : Type 1} → statement M

@@ -2,7 +2,7 @@
 -- Assumes nothing.
 use borrow.Author.Needs.{needs}
 use Rattle.reckoner.proofs.Invariant.{handed-kept, closable}
-use Rattle.reckoner.proofs.EndLaws.{close-no, close-yes}
+use Rattle.reckoner.proofs.CloseLaws.{close-no, close-yes}
 use Rattle.reckoner.proofs.Ledger.close.Statement.{statement}
 use Rattle.reckoner.proofs.Ledger.close.Tie as tie
 
@@ -13,13 +13,19 @@ same-length : tie.Need-same-length
 same-length c = search needs
 
 returns : tie.Need-returns
-returns c = (close-no (c .before .before .before .before .before .before .args .self) _ _ (c .before .before .before .write-ledger .ensures .0) (c .if1 .taken), (c .before .before .before .write-ledger .ensures .1, c .before .before .before .before .before .before .pre))
+returns c =
+    let at-write = c .before .before .before in
+    let write = at-write .write-ledger .ensures in
+    (close-no _ _ _ (write .0) (c .if1 .taken), (write .1, at-write .before .before .before .pre))
 
 same-length-2 : tie.Need-same-length-2
 same-length-2 c = search needs
 
 returns-2 : tie.Need-returns-2
-returns-2 c = (close-yes (c .before .before .before .before .before .before .args .self) _ _ (c .before .before .before .write-ledger .ensures .0) (c .if1 .left), (c .before .before .before .write-ledger .ensures .1, c .before .before .before .before .before .before .pre))
+returns-2 c =
+    let at-write = c .before .before .before in
+    let write = at-write .write-ledger .ensures in
+    (close-yes _ _ _ (write .0) (c .if1 .left), (write .1, at-write .before .before .before .pre))
 
 pub close-spec : {M : Type 1} → statement M
 close-spec = tie.close (tie.spec write-ledger-requires same-length returns same-length-2 returns-2)

@@ -2,13 +2,24 @@
 -- Assumes nothing.
 use native.Mathlib.Omega.{arith}
 use borrow.Author.Needs.{needs}
+use Rattle.wire.specs.Bytes.{Bytes}
 use Rattle.reckoner.proofs.Invariant.{handed-kept, state-kept}
-use Rattle.reckoner.proofs.YearLaws.{factors-fit, counted-fit, year-no, year-lone, year-beyond, year-here, year-handed, year-left, next-inside}
+use Rattle.reckoner.proofs.YearLaws.{Tables, factors-fit, counted-fit, one-left, year-no, year-fault, year-yes, year-handed, next-inside}
 use Rattle.reckoner.proofs.Ledger.year.Statement.{statement}
 use Rattle.reckoner.proofs.Ledger.year.Tie as tie
 
-carbon-stocks-requires : tie.Need-carbon-stocks-requires
-carbon-stocks-requires c κs = search needs
+-- from the step back to the tables of factors, and from these to the start
+abbrev at-tables : tie.After-step → tie.After-counted-factors
+at-tables c = c .before .before .before .before .before .before
+
+abbrev at-start : tie.After-counted-factors → tie.Start
+at-start c = c .before .before .before .before .before .before .before .before .before
+
+tables : (c : tie.After-counted-factors) → Tables (at-start c .args .self .terms) (c .before .before .emission-factors .result) (c .counted-factors .result)
+tables c = record { of-factors = c .before .before .emission-factors .ensures; of-counted = c .counted-factors .ensures }
+
+lent : (c : tie.After-counted-factors) → Bytes (at-start c .args .piece .now)
+lent c k = c .before .before .before .before .before .before .before .before .shared-slice-known .given k .fits
 
 emission-factors-requires : tie.Need-emission-factors-requires
 emission-factors-requires c κs = search needs
@@ -17,10 +28,10 @@ counted-factors-requires : tie.Need-counted-factors-requires
 counted-factors-requires c κs = search needs
 
 step-requires : tie.Need-step-requires
-step-requires c κs = let k = handed-kept (c .before .before .before .before .before .before .before .before .before .before .before .before .before .pre) in
-    let fit = factors-fit (c .before .before .before .before .before .before .before .carbon-stocks .result) (c .before .before .before .before .before .emission-factors .result) (c .before .before .before .before .before .before .before .carbon-stocks .ensures) (c .before .before .before .before .before .emission-factors .ensures) in
-    let counted = counted-fit (c .before .before .before .before .before .before .before .before .before .before .before .before .before .args .self .option) (c .before .before .before .before .before .emission-factors .result) (c .before .before .before .counted-factors .result) fit (c .before .before .before .counted-factors .ensures) in
-    ((omega arith, k .project .small, k .belt .small), (state-kept (c .before .before .before .before .before .before .before .before .before .before .before .before .before .args .self) k, (k .rows, (fit, counted))))
+step-requires c κs =
+    let t = c .before .before .before .before .before in
+    let k = handed-kept (at-start t .pre) in
+    ((omega arith, k .project .small, k .belt .small), (state-kept _ k, (k .rows, (factors-fit (tables t) (k .stocks), counted-fit (tables t) (k .stocks)))))
 
 enum-known-answer : tie.Need-enum-known-answer
 enum-known-answer c = search needs
@@ -28,37 +39,54 @@ enum-known-answer c = search needs
 enum-known-answer-2 : tie.Need-enum-known-answer-2
 enum-known-answer-2 c = search needs
 
-sub-beyond : tie.Need-sub-beyond
-sub-beyond c = next-inside (c .before .before .before .before .before .before .before .before .before .before .before .before .before .before .before .before .before .before .args .piece .now) _ (c .before .before .before .before .step .result) _ (c .before .answer2 .given .1) (c .before .before .before .before .step .ensures .1)
+end-of-piece-requires : tie.Need-end-of-piece-requires
+end-of-piece-requires c κs =
+    let at-answer = c .before in
+    next-inside _ _ _ _ (at-answer .answer2 .given .1) (at-answer .before .before .before .step .ensures .1)
 
 returns : tie.Need-returns
-returns c = let e = year-lone (c .before .before .before .before .before .before .before .before .before .before .before .before .before .before .before .before .before .before .before .args .self) (c .before .before .before .before .before .before .before .before .before .before .before .before .before .carbon-stocks .result) (c .before .before .before .before .before .before .before .before .before .before .before .emission-factors .result) (c .before .before .before .before .before .before .before .before .before .counted-factors .result) (c .before .before .before .before .before .before .before .before .before .before .before .before .before .carbon-stocks .ensures) (c .before .before .before .before .before .before .before .before .before .before .before .emission-factors .ensures) (c .before .before .before .before .before .before .before .before .before .counted-factors .ensures) (c .before .before .before .before .before .before .before .before .before .before .before .before .before .before .before .before .before .before .before .args .piece .now) (c .before .before .before .before .before .step .result) (c .before .before .before .before .before .step .ensures .0) _ (c .before .before .answer2 .given .1) (c .if1 .taken) in (e, c .before .before .before .before .before .before .before .before .before .before .before .before .before .before .before .before .before .before .before .pre)
-
-returns-2 : tie.Need-returns-2
-returns-2 c = let e = year-beyond (c .before .before .before .before .before .before .before .before .before .before .before .before .before .before .before .before .before .before .before .before .args .self) (c .before .before .before .before .before .before .before .before .before .before .before .before .before .before .carbon-stocks .result) (c .before .before .before .before .before .before .before .before .before .before .before .before .emission-factors .result) (c .before .before .before .before .before .before .before .before .before .before .counted-factors .result) (c .before .before .before .before .before .before .before .before .before .before .before .before .before .before .carbon-stocks .ensures) (c .before .before .before .before .before .before .before .before .before .before .before .before .emission-factors .ensures) (c .before .before .before .before .before .before .before .before .before .before .counted-factors .ensures) (c .before .before .before .before .before .before .before .before .before .before .before .before .before .before .before .before .before .before .before .before .args .piece .now) (c .before .before .before .before .before .before .step .result) (c .before .before .before .before .before .before .step .ensures .0) _ (c .before .before .before .answer2 .given .1) (c .before .if1 .left) (c .if2 .taken) in (e, c .before .before .before .before .before .before .before .before .before .before .before .before .before .before .before .before .before .before .before .before .pre)
+returns c =
+    let at-end = c .before in
+    let at-answer = at-end .before .before in
+    let at-step = at-answer .before .before .before in
+    let t = at-tables at-step in
+    year-handed _ _ _ (at-start t .pre) (lent t)
+        (year-fault _ _ _ (tables t) _ _ (at-step .step .ensures .0) _ (at-answer .answer2 .given .1) _ (at-end .end-of-piece .ensures) (c .if1 .taken))
 
 with-year-requires : tie.Need-with-year-requires
-with-year-requires c κs = omega (arith, handed-kept (c .before .before .before .before .before .before .before .before .before .before .before .before .before .before .before .before .before .before .before .before .pre) .count, year-left (c .before .before .before .before .before .before .before .before .before .before .before .before .before .before .before .before .before .before .before .before .args .self) (c .before .before .before .before .before .before .before .before .before .before .before .before .before .before .carbon-stocks .result) (c .before .before .before .before .before .before .before .before .before .before .before .before .emission-factors .result) (c .before .before .before .before .before .before .before .before .before .before .counted-factors .result) (c .before .before .before .before .before .before .before .before .before .before .before .before .before .before .carbon-stocks .ensures) (c .before .before .before .before .before .before .before .before .before .before .before .before .emission-factors .ensures) (c .before .before .before .before .before .before .before .before .before .before .counted-factors .ensures) (c .before .before .before .before .before .before .before .before .before .before .before .before .before .before .before .before .before .before .before .before .args .piece .now) (c .before .before .before .before .before .before .step .result) (c .before .before .before .before .before .before .step .ensures .0) _ (c .before .before .before .answer2 .given .1) (λ k. c .before .before .before .before .before .before .before .before .before .before .before .before .before .before .before .before .before .before .before .shared-slice-known .given k .fits))
+with-year-requires c κs =
+    let at-answer = c .before .before .before in
+    let at-step = at-answer .before .before .before in
+    let t = at-tables at-step in
+    omega (arith, handed-kept (at-start t .pre) .count, one-left (at-start t .args .self) _ _ (tables t) _ 0 _ (at-step .step .ensures .0) (lent t) _ (at-answer .answer2 .given .1))
+
+returns-2 : tie.Need-returns-2
+returns-2 c =
+    let at-answer = c .before in
+    let at-step = at-answer .before .before .before in
+    let t = at-tables at-step in
+    year-handed _ _ _ (at-start t .pre) (lent t) (year-no _ _ _ (tables t) _ _ (at-step .step .ensures .0) _ (at-answer .answer .given .1))
 
 returns-3 : tie.Need-returns-3
-returns-3 c = let e = year-no (c .before .before .before .before .before .before .before .before .before .before .before .before .before .before .before .before .before .before .args .self) (c .before .before .before .before .before .before .before .before .before .before .before .before .carbon-stocks .result) (c .before .before .before .before .before .before .before .before .before .before .emission-factors .result) (c .before .before .before .before .before .before .before .before .counted-factors .result) (c .before .before .before .before .before .before .before .before .before .before .before .before .carbon-stocks .ensures) (c .before .before .before .before .before .before .before .before .before .before .emission-factors .ensures) (c .before .before .before .before .before .before .before .before .counted-factors .ensures) (c .before .before .before .before .before .before .before .before .before .before .before .before .before .before .before .before .before .before .args .piece .now) (c .before .before .before .before .step .result) (c .before .before .before .before .step .ensures .0) _ (c .before .answer .given .1) in (e, c .before .before .before .before .before .before .before .before .before .before .before .before .before .before .before .before .before .before .pre)
-
-returns-4 : tie.Need-returns-4
-returns-4 c = let e = year-here (c .before .before .before .before .before .before .before .before .before .before .before .before .before .before .before .before .before .before .before .before .before .args .self) (c .before .before .before .before .before .before .before .before .before .before .before .before .before .before .before .carbon-stocks .result) (c .before .before .before .before .before .before .before .before .before .before .before .before .before .emission-factors .result) (c .before .before .before .before .before .before .before .before .before .before .before .counted-factors .result) (c .before .before .before .before .before .before .before .before .before .before .before .before .before .before .before .carbon-stocks .ensures) (c .before .before .before .before .before .before .before .before .before .before .before .before .before .emission-factors .ensures) (c .before .before .before .before .before .before .before .before .before .before .before .counted-factors .ensures) (c .before .before .before .before .before .before .before .before .before .before .before .before .before .before .before .before .before .before .before .before .before .args .piece .now) (c .before .before .before .before .before .before .before .step .result) (c .before .before .before .before .before .before .before .step .ensures .0) _ (c .before .before .before .before .answer2 .given .1) (c .before .if2 .left) _ (c .with-year .ensures) in (e, year-handed (c .before .before .before .before .before .before .before .before .before .before .before .before .before .before .before .before .before .before .before .before .before .args .self) (c .before .before .before .before .before .before .before .before .before .before .before .before .before .before .before .before .before .before .before .before .before .args .piece .now) _ _ (c .before .before .before .before .before .before .before .before .before .before .before .before .before .before .before .before .before .before .before .before .before .pre) (λ k. c .before .before .before .before .before .before .before .before .before .before .before .before .before .before .before .before .before .before .before .before .shared-slice-known .given k .fits) e)
+returns-3 c =
+    let at-end = c .before .before in
+    let at-answer = at-end .before .before in
+    let at-step = at-answer .before .before .before in
+    let t = at-tables at-step in
+    year-handed _ _ _ (at-start t .pre) (lent t)
+        (year-yes _ _ _ (tables t) _ _ (at-step .step .ensures .0) _ (at-answer .answer2 .given .1) _ (at-end .end-of-piece .ensures) (c .before .if1 .left) _ (c .with-year .ensures))
 
 pub year-spec : {M : Type 1} → statement M
 year-spec =
     tie.close
     (tie.spec
-    carbon-stocks-requires
     emission-factors-requires
     counted-factors-requires
     step-requires
     enum-known-answer
     enum-known-answer-2
-    sub-beyond
+    end-of-piece-requires
     returns
-    returns-2
     with-year-requires
-    returns-3
-    returns-4)
+    returns-2
+    returns-3)
