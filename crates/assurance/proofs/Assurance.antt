@@ -3,13 +3,14 @@
 use Prim.Native.Nat.{ℕ, _-_, _≤_}
 use native.Mathlib.Omega.{arith}
 use Rattle.arithmetic.proofs.NearLaws.{near-≤ᶠ, near-gap}
+use Rattle.classes.specs.Classes.{greatestStock}
 use Rattle.figures.specs.declared.State.{State}
 use Rattle.assurance.specs.Unrounded.{Unrounded}
 use Rattle.assurance.specs.Assurance.{Assured}
 use Rattle.assurance.proofs.RegionLaws.{follows-assured}
 use Rattle.assurance.proofs.YearLaws.{Reckoned}
 
-pub reckoned-assured : (n m projectStart beltStart : ℕ) (r : State) (u : Unrounded) → Reckoned 13511 n m projectStart beltStart r u → Assured n m projectStart beltStart r u
+pub reckoned-assured : (n m projectStart beltStart : ℕ) (r : State) (u : Unrounded) → Reckoned greatestStock n m projectStart beltStart r u → Assured n m projectStart beltStart r u
 reckoned-assured n m projectStart beltStart r u s = record {
   project = follows-assured n projectStart (r .project) (u .project) (s .project);
   belt = follows-assured n beltStart (r .belt) (u .belt) (s .belt);

@@ -18,10 +18,14 @@ pub record RegionAssured (y start : ℕ) (areas : List AreaUnits) (balance : ℕ
   pub not-above : (i : ℕ) → i < classes → whole (pos (area areas i)) ≤ᶠ unrounded i
   pub small : balance ≤ 132 * y
 
--- of the totals: reported total ≤ unrounded total; 5 × gap < 261,576 × n × (n + 1) + 21 × n + 4 × m where n ≥ 1; both 0 where n = 0
+-- what five times the gap stays below, in n accepted years with m activity records
+abbrev pub gapBound : (n m : ℕ) → ℕ
+gapBound n m = 261576 * (n * (n + 1)) + 21 * n + 4 * m
+
+-- of the totals: reported total ≤ unrounded total; the gap stays below its bound where n ≥ 1; both 0 where n = 0
 pub record TotalAssured (n m : ℕ) (total : ℤ) (unrounded : Fraction) : Type 0 where
   pub never-more : whole total ≤ᶠ unrounded
-  pub gap : 0 < n → (unrounded -ᶠ whole total) ×ᶠ 5 <ᶠ whole (pos (261576 * (n * (n + 1)) + 21 * n + 4 * m))
+  pub gap : 0 < n → (unrounded -ᶠ whole total) ×ᶠ 5 <ᶠ whole (pos (gapBound n m))
   pub none : n ≡ 0 → (total ≡ pos 0) × (unrounded ≡ whole (pos 0))
 
 pub record Assured (n m projectStart beltStart : ℕ) (s : State) (u : Unrounded) : Type 0 where

@@ -10,7 +10,7 @@ use lib.ListN.{getD, List·getD-eq-default}
 use borrow.Author.Tests.{ltb-true, ltb-false}
 use Rattle.arithmetic.proofs.SumLaws.{length-listed, getD-listed}
 use Rattle.arithmetic.proofs.TableLaws.{atMost, entry-le}
-use Rattle.classes.specs.Classes.{TP, PP, carbonStocks, emissionFactor}
+use Rattle.classes.specs.Classes.{TP, PP, carbonStocks, greatestStock, emissionFactor}
 use Rattle.classes.specs.Matrix.{tableOf}
 
 pub factor-le : (stocks : List ℕ) (S : ℕ) → ((i : ℕ) → getD stocks i 0 ≤ S) → (i j : ℕ) → emissionFactor stocks i j ≤ S
@@ -21,9 +21,9 @@ factor-le stocks S h i j = go (eqb j TP || eqb j PP)
     go true = omega arith
     go false = omega (arith, h i)
 
-pub built-in-le : (i : ℕ) → getD carbonStocks i 0 ≤ 13511
+pub built-in-le : (i : ℕ) → getD carbonStocks i 0 ≤ greatestStock
 unfolding carbonStocks atMost
-built-in-le = entry-le 13511 carbonStocks tt
+built-in-le = entry-le greatestStock carbonStocks tt
 
 -- no entry of a table of f is above a bound of f
 pub table-le : (f : ℕ → ℕ → ℕ) (g : ℕ) → ((i j : ℕ) → f i j ≤ g) → (k : ℕ) → getD (tableOf f) k 0 ≤ g

@@ -23,6 +23,10 @@ NF = 11
 unfoldable pub carbonStocks : List ℕ
 carbonStocks = 9130 ∷ 13511 ∷ 5654 ∷ 4821 ∷ 0 ∷ 8415 ∷ 9240 ∷ 3986 ∷ 4265 ∷ 5654 ∷ 5654 ∷ 0 ∷ []
 
+-- the greatest of them, that of SE
+abbrev pub greatestStock : ℕ
+greatestStock = 13511
+
 -- annual probability of deforestation by class, in millionths: document 01's yearly probability of turning into non-forest
 -- (document 001, table 4)
 unfoldable pub deforestationProbabilities : List ℕ

@@ -189,6 +189,10 @@ dossierBytes d = joined (openingBytes (d .opening) ∷ joined (map yearBytes (d 
 abbrev pub WellFormed : List ℕ → Type 0
 WellFormed s = (d : Dossier) × DossierInRange d × (s ≡ dossierBytes d)
 
+-- with n years
+abbrev pub WellFormedYears : ℕ → List ℕ → Type 0
+WellFormedYears n s = (d : Dossier) × DossierInRange d × (s ≡ dossierBytes d) × (length (d .years) ≡ n)
+
 abbrev pub WellFormedOpening : List ℕ → Type 0
 WellFormedOpening s = (o : Opening) × OpeningInRange o × (s ≡ openingBytes o)
 

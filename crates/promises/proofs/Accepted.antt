@@ -7,19 +7,21 @@ use mathlib.Core.Logic.{_↔_, Iff·symm}
 use mathlib.Core.List.{List}
 use native.Mathlib.Omega.{arith}
 use lib.Dec.{ltb}
+use lib.ListN.{length}
 use borrow.Author.Tests.{ltb-false, le-ltb}
 use Rattle.wire.specs.Bytes.{Bytes}
 use Rattle.figures.specs.Year.{Year}
-use Rattle.dossier.specs.Records.{Opening, WellFormed, WellFormedOpening, WellFormedYear}
+use Rattle.dossier.specs.Records.{Opening, WellFormedYears, WellFormedOpening, WellFormedYear}
 use Rattle.dossier.specs.Reader.{Judged, refused, accepted, numberOf}
-use Rattle.dossier.specs.Judging.{openingPiece, yearPiece, callNumber}
-use Rattle.dossier.proofs.Numbers.{opening-zero, year-zero, call-zero}
+use Rattle.dossier.specs.Judging.{openingPiece, yearPiece}
+use Rattle.dossier.proofs.Numbers.{opening-zero, year-zero}
 use Rattle.reckoner.specs.declared.Ledger.{Ledger}
 use Rattle.reckoner.specs.declared.Answer.{Answer}
 use Rattle.reckoner.specs.Ledger.{dueOf}
-use Rattle.reckoner.specs.Calls.{answerNumber, openJudged, openCall, yearJudged, yearCall, closeCall, HandedBack}
+use Rattle.reckoner.specs.Calls.{answerNumber, openJudged, openCall, yearJudged, yearCall, closeCall, HandedBack, reckonNumber}
 use Rattle.promises.specs.Accepted.{AcceptedWhen}
 use Rattle.reckoner.proofs.Invariant.{handed-kept, due-kept}
+use Rattle.reckoner.proofs.Numbers.{number-zero}
 
 -- the number answered is that of the judgement
 open-number : (j : Judged Opening) → answerNumber (openJudged j .answer) ≡ numberOf j
@@ -46,8 +48,12 @@ close-when l size = (go (ltb size (64 * l .given + 32)) refl, λ h. rw (le-ltb s
     go true e h = absurd (omega arith)
     go false e h = ltb-false size (64 * l .given + 32) e
 
-reckoning-when : (s : List ℕ) → Bytes s → (size : ℕ) → (callNumber s size ≡ 0) ↔ ((w : WellFormed s) × (64 * w .0 .opening .head .years + 32 ≤ size))
-reckoning-when s b size = let x = call-zero s b size in (λ h. let w = x .1 h in ((w .0, w .1, w .2), w .3), λ w. x .0 (w .0 .0, w .0 .1, w .0 .2, w .1))
+reckoning-when : (s : List ℕ) → Bytes s → (size : ℕ) → (reckonNumber s size ≡ 0) ↔ ((n : ℕ) × WellFormedYears n s × (64 * n + 32 ≤ size))
+reckoning-when s b size =
+    let x = number-zero s b size in (
+      (λ h. let w = x .1 h in (length (w .0 .years), (w .0, w .1, w .2, refl), omega (arith, w .1 .count, w .3))),
+      λ w. let d = w .1 in x .0 (d .0, d .1, d .2, omega (arith, d .1 .count, d .3, w .2)),
+    )
 
 pub accepted-when : AcceptedWhen
 accepted-when = record { opening = open-when; year = year-when; close = close-when; reckoning = reckoning-when }

@@ -1,95 +1,187 @@
--- Demand 3 of the calls: one theorem for any opening piece and any list of calls after it.
+-- Demands 2 and 3 of the ledger's calls: one theorem for any opening piece and any list of calls after it.
 -- Assumes nothing.
-use Prim.Native.Nat.{ℕ, zero, suc, _+_, _*_, _≤_}
-use mathlib.Core.Path.{_≡_, refl, _∙_, subst}
-use mathlib.Core.List.{List, [], _∷_}
+use Prim.Native.Nat.{ℕ, _+_, _*_, _≤_, _<_}
+use mathlib.Core.Path.{_≡_, refl, _∙_, ap, sym}
+use mathlib.Core.List.{List}
+use native.Mathlib.Nat.{zero-add}
 use native.Mathlib.Omega.{arith}
-use lib.ListN.{length}
-use Rattle.wire.specs.Bytes.{Bytes}
+use lib.IntN.{pos}
+use lib.ListN.{length, getD, take, replicate, length-replicate}
+use lib.Seq.{take-all}
+use Rattle.arithmetic.specs.Sum.{sum}
+use Rattle.arithmetic.proofs.TableLaws.{atMost, entry-le}
+use Rattle.classes.specs.Classes.{greatestStock, emissionFactor}
+use Rattle.classes.specs.Matrix.{RowsSum}
+use Rattle.classes.proofs.FactorLaws.{factor-le, built-in-le}
+use Rattle.projection.specs.Projection.{areaTotal, openedRegion}
+use Rattle.figures.specs.declared.State.{State}
+use Rattle.figures.specs.declared.Figures.{Figures}
+use Rattle.figures.specs.Figures.{noFigures}
 use Rattle.figures.specs.Year.{Year}
-use Rattle.dossier.specs.Records.{Opening, Due}
+use Rattle.figures.specs.Reckoning.{recordCount}
+use Rattle.assurance.specs.Unrounded.{openedᶠ, afterYearsᶠ}
+use Rattle.assurance.specs.Assurance.{Assured}
+use Rattle.assurance.proofs.Assurance.{reckoned-assured}
+use Rattle.assurance.proofs.YearLaws.{Reckoned, opened-reckoned}
+use Rattle.wire.specs.Bytes.{Bytes}
+use Rattle.wire.specs.Signed.{figureAt}
+use Rattle.report.specs.Report.{eight, closing}
+use Rattle.dossier.specs.Records.{Opening, OpeningInRange, units, termsOf, stateOf, emptyTerms, emptyState, Due, settled, YearsInRange}
 use Rattle.dossier.specs.Reader.{Judged, refused, accepted}
-use Rattle.dossier.specs.Judging.{openingPiece, yearPiece}
+use Rattle.dossier.specs.Judging.{openingPiece}
+use Rattle.dossier.proofs.WellFormed.{opening-accepted}
 use Rattle.reckoner.specs.declared.Ledger.{Ledger}
-use Rattle.reckoner.specs.Ledger.{dueOf}
-use Rattle.reckoner.specs.Calls.{openCall, yearJudged, yearCall, closeCall, closedBuffer, HandedBack, opened, given}
-use Rattle.promises.specs.CallList.{Call, giving, closing, called, afterCall, afterCalls, ledgerAfter, LentBytes, toCome, upTo, firstYears}
-use Rattle.promises.specs.Account.{Account, openedAccount, projectStart, beltStart, yearAccount, accountCall, accountCalls, accountAfter}
-use Rattle.promises.specs.Promises.{RegionsReported, ListAssured}
-use Rattle.promises.proofs.ClosingLaws.{total-back, project-back, belt-back}
-use Rattle.promises.proofs.Tracking.{Tracks, tracks-assured, opening-tracks, lent-first, lent-rest, call-tracks, calls-track}
+use Rattle.reckoner.specs.Ledger.{newLedger, emptyLedger, openedLedger, dueOf, givenYears}
+use Rattle.reckoner.specs.Calls.{openJudged, openCall, closedBuffer, opened}
+use Rattle.reckoner.proofs.RegionKept.{units-total}
+use Rattle.reckoner.proofs.Invariant.{LedgerKept, open-kept, in-use-rows, years-kept}
+use Rattle.reckoner.proofs.Numbers.{given-count}
+use Rattle.promises.specs.CallList.{Call, afterCalls, ledgerAfter, LentBytes, acceptedYears, yearsAfter, standingCalls, standing}
+use Rattle.promises.specs.Reported.{yearsFigures, RegionReported, Reported}
+use Rattle.promises.specs.Lists.{openedDue, ClosingAssured, ListAssured}
+use Rattle.promises.proofs.ClosingLaws.{year-figure, last-figure}
+use Rattle.promises.proofs.YearsLaws.{own-figures, given-total, from-nothing, given-project, given-belt, years-reckoned}
+use Rattle.promises.proofs.CallsLaws.{calls-handed, brought-when, gives, stands, standing-count}
 
--- ---- the calls up to the y-th accepted year
-up-to-lent : (calls : List Call) (y : ℕ) (l : Ledger) → LentBytes calls → LentBytes (upTo y l calls)
-unfolding upTo
-up-to-lent [] y l b = tt
-up-to-lent (c ∷ calls) zero l b = tt
-up-to-lent (giving piece ∷ calls) (suc y) l b = (b .0, up-to-lent calls _ _ (b .1))
-up-to-lent (closing buffer ∷ calls) (suc y) l b = up-to-lent calls _ _ b
+-- ---- a ledger as an opening hands it back
+record Opened (l : Ledger) : Type 0 where
+  none : l .given ≡ 0
+  room : length (l .figures) ≡ 20
+  nothing : l .state .total .0 ≡ pos 0
+  factors : (i j : ℕ) → emissionFactor (l .terms .stocks) i j ≤ greatestStock
+  rows : 1 ≤ l .state .left → RowsSum (l .terms .matrix)
+  reckoned : Reckoned greatestStock 0 0 (l .terms .start .0) (l .terms .beltstart .0) (l .state) (openedᶠ (l .state))
 
--- a call takes one from the years to come just where the account counts one more
-to-come : {project belt : ℕ} (c : Call) (y : ℕ) (l : Ledger) (a : Account) → Tracks project belt l a → toCome c (called c l .answer) (suc y) + accountCall c a .years ≡ suc y + a .years
-unfolding called accountCall yearCall
-to-come (giving piece) y l a t =
-    subst (λ (d : Due). toCome (giving piece) (called (giving piece) l .answer) (suc y) + yearAccount a (yearPiece d piece) .years ≡ suc y + a .years) (t .due) (go (yearPiece (dueOf l) piece))
+zero-stocks : (i : ℕ) → getD (replicate 12 0) i 0 ≤ greatestStock
+unfolding atMost
+zero-stocks = entry-le greatestStock (replicate 12 0) tt
+
+opened-empty : Opened emptyLedger
+unfolding emptyLedger newLedger emptyTerms
+opened-empty = record {
+  none = refl;
+  room = length-replicate 20 noFigures;
+  nothing = unfold emptyState in refl;
+  factors = factor-le (replicate 12 0) greatestStock zero-stocks;
+  rows = λ h. unfold emptyState in absurd (omega arith);
+  reckoned = unfold emptyState openedRegion sum in opened-reckoned greatestStock emptyState refl refl refl;
+}
+
+opened-opening : (o : Opening) → OpeningInRange o → Opened (openedLedger o)
+unfolding openedLedger newLedger termsOf
+opened-opening o h = record {
+  none = refl;
+  room = length-replicate 20 noFigures;
+  nothing = unfold stateOf in refl;
+  factors = factor-le _ greatestStock built-in-le;
+  rows = λ k. in-use-rows (o .head .option) (o .matrix) (h .matrix);
+  reckoned = unfold stateOf openedRegion in
+      rw (← units-total (o .projectAreas) (h .projectAreas .twelve), ← units-total (o .beltAreas) (h .beltAreas .twelve)) (opened-reckoned greatestStock (stateOf o) refl refl refl);
+}
+
+opening-opened : (piece : List ℕ) → Bytes piece → Opened (openCall piece .ledger)
+unfolding openCall
+opening-opened piece b = go (openingPiece piece) refl
   where
-    go : (j : Judged Year) → toCome (giving piece) (yearJudged l j .answer) (suc y) + yearAccount a j .years ≡ suc y + a .years
-    go (refused n) = refl
-    go (accepted z rest) = omega arith
-to-come (closing buffer) y l a t = refl
+    go : (j : Judged Opening) → openingPiece piece ≡ j → Opened (openJudged j .ledger)
+    go (refused n) e = opened-empty
+    go (accepted o rest) e = opened-opening o (opening-accepted .sound piece b o rest e .0)
 
-up-to-count : {project belt : ℕ} (calls : List Call) (y : ℕ) (l : Ledger) (a : Account) → LentBytes calls → Tracks project belt l a → y + a .years ≤ accountCalls calls a .years
-    → accountCalls (upTo y l calls) a .years ≡ y + a .years
-unfolding upTo accountCalls
-up-to-count [] y l a b t h = omega arith
-up-to-count (c ∷ calls) zero l a b t h = omega arith
-up-to-count (c ∷ calls) (suc y) l a b t h =
-    up-to-count calls _ (afterCall c l) (accountCall c a) (lent-rest c calls b) (call-tracks c l a (lent-first c calls b) t) (omega (arith, to-come c y l a t)) ∙ to-come c y l a t
+-- what it settled
+pub opening-due : (piece : List ℕ) → dueOf (openCall piece .ledger) ≡ openedDue (openingPiece piece)
+unfolding openCall
+opening-due piece = go (openingPiece piece)
+  where
+    go : (j : Judged Opening) → dueOf (openJudged j .ledger) ≡ openedDue j
+    go (refused n) = unfold emptyLedger newLedger dueOf in refl
+    go (accepted o rest) = unfold openedLedger newLedger dueOf settled in refl
 
-none-yet : (j : Judged Opening) → openedAccount j .years ≡ 0
-none-yet (refused n) = refl
-none-yet (accepted o rest) = refl
+-- ---- that ledger given years in range, and closed
+module _ (l : Ledger) (o : Opened l) (k : LedgerKept l) (ys : List Year) (inRange : YearsInRange (dueOf l) ys) where
+  count-is : givenYears ys l .given ≡ length ys
+  count-is = omega (arith, given-count ys l, o .none)
 
--- every ledger of the list is one that these calls handed back
-calls-handed : (calls : List Call) (l : Ledger) → LentBytes calls → HandedBack l → HandedBack (afterCalls calls l)
-unfolding afterCalls afterCall called closeCall
-calls-handed [] l b h = h
-calls-handed (giving piece ∷ calls) l b h = calls-handed calls _ (b .1) (given h piece (b .0))
-calls-handed (closing buffer ∷ calls) l b h = calls-handed calls l b h
+  kept-is : LedgerKept (givenYears ys l)
+  kept-is = years-kept l k ys inRange
+
+  assured : Assured (length ys) (recordCount ys) (l .terms .start .0) (l .terms .beltstart .0) (givenYears ys l .state) (afterYearsᶠ (l .terms) ys (openedᶠ (l .state)))
+  assured = reckoned-assured _ _ _ _ _ _ (simp zero-add at (years-reckoned greatestStock ys l (o .factors) (o .rows) inRange 0 0 _ _ _ (o .reckoned)))
+
+  module _ (buffer : List ℕ) (h : 64 * length ys + 32 ≤ length buffer) where
+    abbrev closed : List ℕ
+    closed = closedBuffer (givenYears ys l) buffer
+
+    -- total, tonnes and balances, at their places
+    last : (j : ℕ) → j < 4 → figureAt closed (64 * length ys + 8 * j) ≡ getD (closing (givenYears ys l .state .total .0) (givenYears ys l .state .project .balance .0) (givenYears ys l .state .belt .balance .0)) j (pos 0)
+    last j hj = rw (← count-is) (last-figure (givenYears ys l) kept-is buffer (omega (arith, count-is)) j hj)
+
+    total-back : figureAt closed (64 * length ys) ≡ givenYears ys l .state .total .0
+    total-back = let e : 64 * length ys + 8 * 0 ≡ 64 * length ys = omega arith in ap (figureAt closed) (sym e) ∙ last 0 (omega arith)
+
+    project-reported : RegionReported (length ys) (l .terms .start .0) (figureAt closed (64 * length ys + 16)) (givenYears ys l .state .project) (afterYearsᶠ (l .terms) ys (openedᶠ (l .state)) .project)
+    project-reported = record { decoded = last 2 (omega arith); assured = assured .project }
+
+    belt-reported : RegionReported (length ys) (l .terms .beltstart .0) (figureAt closed (64 * length ys + 24)) (givenYears ys l .state .belt) (afterYearsᶠ (l .terms) ys (openedᶠ (l .state)) .belt)
+    belt-reported = record { decoded = last 3 (omega arith); assured = assured .belt }
+
+    -- each figure of each year is its own
+    year-is : (i j : ℕ) → i < length ys → j < 8
+        → figureAt closed (64 * i + 8 * j) ≡ getD (eight (getD (yearsFigures (l .terms) (l .state .project) (l .state .belt) ys) i noFigures)) j (pos 0)
+    year-is i j hi hj =
+        let e : l .given + i ≡ i = omega (arith, o .none) in
+        let own = ap (λ (m : ℕ). getD (givenYears ys l .figures) m noFigures) (sym e) ∙ own-figures ys l (omega (arith, o .none, o .room, kept-is .count, count-is)) i hi in
+        year-figure (givenYears ys l) kept-is buffer (omega (arith, count-is)) i j (omega (arith, count-is)) hj
+        ∙ ap (λ (f : Figures). getD (eight f) j (pos 0)) own
+
+    reported : Reported (dueOf l) ys closed
+    unfolding dueOf
+    reported = record {
+      figures = year-is;
+      total = total-back ∙ given-total ys l ∙ from-nothing _ _ (o .nothing);
+      tonnes = rw total-back (last 1 (omega arith));
+      assured = rw total-back (assured .total);
+      project = rw (← given-project ys l) project-reported;
+      belt = rw (← given-belt ys l) belt-reported;
+    }
 
 -- ---- after any list of calls
-module _ (opening : List ℕ) (o : Bytes opening) where
-  abbrev Both : Ledger → Account → Type 0
-  Both l a = Tracks (projectStart (openingPiece opening)) (beltStart (openingPiece opening)) l a
-
-  list-tracks : (calls : List Call) → LentBytes calls → Both (ledgerAfter opening calls) (accountAfter opening calls)
-  unfolding ledgerAfter accountAfter
-  list-tracks calls b = calls-track calls _ _ b (opening-tracks opening o)
-
-  list-reached : (calls : List Call) → LentBytes calls → (y : ℕ) → y ≤ accountAfter opening calls .years → accountAfter opening (firstYears y opening calls) .years ≡ y
-  unfolding accountAfter firstYears
-  list-reached calls b y h =
-      let z = none-yet (openingPiece opening) in
-      omega (arith, up-to-count calls y (openCall opening .ledger) (openedAccount (openingPiece opening)) b (opening-tracks opening o) (omega arith))
-
-  regions-reported : (y : ℕ) (l : Ledger) (a : Account) → Both l a → a .years ≡ y → (buffer : List ℕ) → 64 * y + 32 ≤ length buffer
-      → RegionsReported y (projectStart (openingPiece opening)) (beltStart (openingPiece opening)) l (a .unrounded) (closedBuffer l buffer)
-  regions-reported y l a t e buffer h =
-      let s = tracks-assured l a t in
-      let g : l .given ≡ y = t .count ∙ e in
+module _ (opening : List ℕ) (b : Bytes opening) where
+  closing-assured : (calls : List Call) → LentBytes calls → ClosingAssured opening calls
+  unfolding ledgerAfter yearsAfter
+  closing-assured calls c =
+      let k = open-kept opening b in
+      let g = gives calls (openCall opening .ledger) k c in
+      let o = opening-opened opening b in
       record {
-        project = record { decoded = project-back l (t .kept) y g buffer h; assured = rw e at (s .project) };
-        belt = record { decoded = belt-back l (t .kept) y g buffer h; assured = rw e at (s .belt) };
+        handed = calls-handed calls _ c (opened opening b);
+        count = rw (g .ledger) (count-is _ o k _ (g .inRange));
+        closed = λ buffer h. rw (g .ledger, ← opening-due opening) (reported _ o k _ (g .inRange) buffer h);
       }
 
--- demand 3
+  -- the calls that stand come to the same
+  same-ledger : (calls : List Call) → LentBytes calls → ledgerAfter opening (standing opening calls) ≡ ledgerAfter opening calls
+  unfolding ledgerAfter standing
+  same-ledger calls c =
+      let l = openCall opening .ledger in
+      let k = open-kept opening b in
+      let n = length (standingCalls calls l) in
+      let all : take n (standingCalls calls l) ≡ standingCalls calls l = take-all n (standingCalls calls l) (omega arith) in
+      let every : take n (acceptedYears calls l) ≡ acceptedYears calls l = take-all n (acceptedYears calls l) (omega (arith, standing-count calls l k c)) in
+      let s = stands calls l k c n in
+      ap (λ (cs : List Call). afterCalls cs l) (sym all) ∙ gives (take n (standingCalls calls l)) l k (s .lent) .ledger ∙ ap (λ (ys : List Year). givenYears ys l) (s .years ∙ every) ∙ sym (gives calls l k c .ledger)
+
+-- demands 2 and 3
 pub demand3 : (opening : List ℕ) → Bytes opening → (calls : List Call) → LentBytes calls → ListAssured opening calls
-demand3 opening o calls b =
-    let t = list-tracks opening o calls b in
+unfolding standing
+demand3 opening b calls c =
+    let l = openCall opening .ledger in
+    let k = open-kept opening b in
+    let s = stands calls l k c in
     record {
-      handed = unfold ledgerAfter in calls-handed calls _ b (opened opening o);
-      count = t .count;
-      total = λ buffer h. rw (total-back (ledgerAfter opening calls) (t .kept) _ (t .count) buffer h) (tracks-assured _ _ t .total);
-      reached = list-reached opening o calls b;
-      regions = λ y h buffer h′. regions-reported opening o y _ _ (list-tracks opening o (firstYears y opening calls) (unfold firstYears in up-to-lent calls y _ b)) (list-reached opening o calls b y h) buffer h′;
+      brought = brought-when;
+      after = closing-assured opening b calls c;
+      same = same-ledger opening b calls c;
+      number = unfold yearsAfter in standing-count calls l k c;
+      first = λ y. unfold yearsAfter in s y .years;
+      after-first = λ y. closing-assured opening b (take y (standingCalls calls l)) (s y .lent);
     }

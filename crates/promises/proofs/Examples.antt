@@ -12,29 +12,28 @@ use Rattle.classes.specs.Calendar.{daysInYear}
 use Rattle.projection.specs.Projection.{projectedCarbon, nextArea, nextAreas, lostArea, openedRegion, projectedRegion, projectedYear}
 use Rattle.activity.specs.Activity.{numerator, denominator, activityGrams, activityEmissions}
 use Rattle.figures.specs.Figures.{referenceLevel, monitoredCarbon, countedFactor, stockChangeEmissions, displacedEmissions, reductionOf, creditedOf, tonnesOf, figuresOf}
-use Rattle.figures.specs.Reckoning.{regionReference, tableEmissions, yearFigures}
+use Rattle.figures.specs.Reckoning.{regionReference, tableEmissions, yearFigures, afterFigures, afterYear}
 use Rattle.assurance.specs.Unrounded.{openedᶠ, flowᶠ, carbonᶠ, referenceᶠ, emissionsᶠ, activityᶠ, displacedᶠ, reductionᶠ, creditedᶠ, afterYearᶠ, afterYearsᶠ}
 use Rattle.wire.specs.Bytes.{number, bytes, numbers, bytesOfEach, joined, total, fieldAt}
 use Rattle.wire.specs.Signed.{twosComplement, figureBytes, figuresBytes, written, signed, figureAt}
-use Rattle.dossier.specs.Records.{headBytes, areasBytes, optionBytes, openingBytes, settled, conversionsBytes, activityBytes, yearBytes, dossierBytes}
+use Rattle.dossier.specs.Records.{headBytes, areasBytes, optionBytes, openingBytes, termsOf, stateOf, settled, next, conversionsBytes, activityBytes, yearBytes, dossierBytes}
 use Rattle.dossier.specs.Reader.{_>>=_, _>>_, give, mark, stands, upon, present, begin, field, fields, outside, within, equal, nothing}
 use Rattle.dossier.specs.JudgingRecords.{head, areas, matrixUnder, conversions, fuel, activityMark, activity}
-use Rattle.dossier.specs.Judging.{opening, run, activities, yearDue, year, end, years, dossier}
-use Rattle.reckoning.specs.Step.{afterFigures, yearAdvanced}
+use Rattle.dossier.specs.Judging.{opening, run, activities, yearRecords, yearLeft, year, end, years, dossier}
+use Rattle.reckoning.specs.Step.{yearAdvanced}
 use Rattle.report.specs.Report.{eights, reported}
-use Rattle.reckoner.specs.Ledger.{openedWith, openedLedger, termsOf, givenYear, givenYears, ledgerOf, report}
-use Rattle.reckoner.specs.Calls.{closedBuffer, reckonBuffer}
-use Rattle.promises.specs.DossierPromises.{dossierᶠ}
+use Rattle.reckoner.specs.Ledger.{newLedger, openedLedger, dueOf, givenYear, givenYears, ledgerOf, report}
+use Rattle.reckoner.specs.Calls.{closedBuffer, dossierCall, reckonBuffer}
 use Rattle.promises.specs.Examples.{onlyE, caseA, bufferA, threeUnits, Example, examples}
 
 pub examples-hold : map (λ (e : Example). e .given) examples ≡ map (λ (e : Example). e .stated) examples
-unfolding examples onlyE caseA bufferA threeUnits figureAt signed fieldAt number reckonBuffer closedBuffer written figuresBytes figureBytes twosComplement bytes report reported eights ledgerOf givenYears givenYear termsOf openedLedger openedWith yearAdvanced afterFigures yearFigures regionReference tableEmissions referenceLevel monitoredCarbon countedFactor stockChangeEmissions displacedEmissions reductionOf creditedOf tonnesOf figuresOf projectedCarbon nextArea nextAreas lostArea openedRegion projectedRegion projectedYear numerator denominator activityGrams activityEmissions carbonStocks deforestationProbabilities emissionFactor optionOne optionOneMatrix daysInYear sum listed ceilDiv floorDiv numbers bytesOfEach joined total headBytes areasBytes optionBytes openingBytes settled conversionsBytes activityBytes yearBytes dossierBytes _>>=_ _>>_ give mark stands upon present begin field fields outside within equal nothing head areas matrixUnder conversions fuel activityMark activity opening run activities yearDue year end years dossier
+unfolding examples onlyE caseA bufferA threeUnits figureAt signed fieldAt number reckonBuffer dossierCall closedBuffer written figuresBytes figureBytes twosComplement bytes report reported eights ledgerOf givenYears givenYear openedLedger newLedger dueOf yearAdvanced afterYear afterFigures yearFigures regionReference tableEmissions referenceLevel monitoredCarbon countedFactor stockChangeEmissions displacedEmissions reductionOf creditedOf tonnesOf figuresOf projectedCarbon nextArea nextAreas lostArea openedRegion projectedRegion projectedYear numerator denominator activityGrams activityEmissions carbonStocks deforestationProbabilities emissionFactor optionOne optionOneMatrix daysInYear sum listed ceilDiv floorDiv numbers bytesOfEach joined total headBytes areasBytes optionBytes openingBytes termsOf stateOf settled next conversionsBytes activityBytes yearBytes dossierBytes _>>=_ _>>_ give mark stands upon present begin field fields outside within equal nothing head areas matrixUnder conversions fuel activityMark activity opening run activities yearRecords yearLeft year end years dossier
 examples-hold = refl
 
 -- the unrounded total of case A is 1,196,360,888 ÷ 3
 unroundedA : Fraction
-unroundedA = dossierᶠ 1 caseA .total
+unroundedA = afterYearsᶠ (termsOf (caseA .opening)) (caseA .years) (openedᶠ (stateOf (caseA .opening))) .total
 
 unrounded-A : unroundedA .num *ℤ pos 3 ≡ pos 1196360888 *ℤ pos (unroundedA .den)
-unfolding unroundedA dossierᶠ afterYearsᶠ onlyE caseA afterYearᶠ openedᶠ flowᶠ carbonᶠ referenceᶠ emissionsᶠ activityᶠ displacedᶠ reductionᶠ creditedᶠ sumᶠ whole _+ᶠ_ _-ᶠ_ negᶠ _×ᶠ_ _÷ᶠ_by_ ifPositive monitoredCarbon countedFactor numerator denominator carbonStocks deforestationProbabilities emissionFactor optionOne optionOneMatrix daysInYear sum listed
+unfolding unroundedA termsOf stateOf openedRegion afterYearsᶠ onlyE caseA afterYearᶠ openedᶠ flowᶠ carbonᶠ referenceᶠ emissionsᶠ activityᶠ displacedᶠ reductionᶠ creditedᶠ sumᶠ whole _+ᶠ_ _-ᶠ_ negᶠ _×ᶠ_ _÷ᶠ_by_ ifPositive monitoredCarbon countedFactor numerator denominator carbonStocks deforestationProbabilities emissionFactor optionOne optionOneMatrix daysInYear sum listed
 unrounded-A = refl

@@ -1,7 +1,8 @@
 pub mod ClosingLaws
-pub mod Tracking
+pub mod YearsLaws
+pub mod CallsLaws
 pub mod Demand3
-pub mod Accepted
-pub mod DossierLaws
 pub mod Dossiers
+pub mod Refused
+pub mod Accepted
 pub mod Examples

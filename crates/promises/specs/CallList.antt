@@ -1,13 +1,17 @@
 -- Document 01, "Calls and sheet": "The list in demand 3 holds year calls .. and closings .., in any number and order, refused ones among them."
 -- Assumes nothing.
-use Prim.Native.Nat.{ℕ, zero, suc, _-_}
-use mathlib.Core.List.{List, [], _∷_}
+use mathlib.Core.List.{List, [], _∷_, _++_}
+use Prim.Native.Nat.{ℕ}
 use lib.ListN.{length}
 use Rattle.wire.specs.Bytes.{Bytes}
+use Rattle.figures.specs.Year.{Year}
+use Rattle.dossier.specs.Reader.{Judged, refused, accepted}
+use Rattle.dossier.specs.Judging.{yearPiece}
 use Rattle.reckoner.specs.declared.Ledger.{Ledger}
 use Rattle.reckoner.specs.declared.Answer.{Answer}
 use Rattle.reckoner.specs.declared.Step.{Step}
-use Rattle.reckoner.specs.Calls.{openCall, yearCall, closeCall}
+use Rattle.reckoner.specs.Ledger.{dueOf}
+use Rattle.reckoner.specs.Calls.{answered, openCall, yearCall, closeCall}
 
 -- "year calls, each lent bytes of its own, whatever they are, and closings, each lent a result buffer of any length"
 pub data Call : Type 0 where
@@ -28,7 +32,7 @@ afterCalls [] l = l
 afterCalls (c ∷ calls) l = afterCalls calls (afterCall c l)
 
 -- "It starts from the ledger an opening handed back, the empty one of a refused opening too"
-unfoldable pub ledgerAfter : List ℕ → List Call → Ledger
+unfoldable pub ledgerAfter : (opening : List ℕ) → List Call → Ledger
 ledgerAfter opening calls = afterCalls calls (openCall opening .ledger)
 
 -- what a year call is lent are bytes
@@ -37,22 +41,32 @@ LentBytes [] = Unit {0}
 LentBytes (giving piece ∷ calls) = Bytes piece × LentBytes calls
 LentBytes (closing buffer ∷ calls) = LentBytes calls
 
--- of y accepted years still to come, those to come once a call has answered
-abbrev pub toCome : Call → Answer → ℕ → ℕ
-toCome (giving piece) Answer.Accepted y = y - 1
-toCome (giving piece) (Answer.Refused n) y = y
-toCome (closing buffer) answer y = y
+-- ---- the accepted years of a list, by the verdicts alone
+-- the year that was judged, if it is accepted
+abbrev pub judgedYear : Judged Year → List Year
+judgedYear (refused n) = []
+judgedYear (accepted y rest) = y ∷ []
 
--- no call where no year is to come
-abbrev pub ifToCome : ℕ → List Call → List Call
-ifToCome zero calls = []
-ifToCome (suc y) calls = calls
+-- the year that a call brings: none where it is refused, or a closing
+unfoldable pub broughtYear : Call → Ledger → List Year
+broughtYear (giving piece) l = judgedYear (yearPiece (dueOf l) piece)
+broughtYear (closing buffer) l = []
 
--- the calls up to and including the y-th accepted year, from a ledger on; all of them where fewer are accepted
-unfoldable pub upTo : ℕ → Ledger → List Call → List Call
-upTo y l [] = []
-upTo y l (c ∷ calls) = ifToCome y (c ∷ upTo (toCome c (called c l .answer) y) (afterCall c l) calls)
+unfoldable pub acceptedYears : List Call → Ledger → List Year
+acceptedYears [] l = []
+acceptedYears (c ∷ calls) l = broughtYear c l ++ acceptedYears calls (afterCall c l)
 
--- "after its y-th accepted year": those of a list that follows an opening
-unfoldable pub firstYears : ℕ → List ℕ → List Call → List Call
-firstYears y opening calls = upTo y (openCall opening .ledger) calls
+unfoldable pub yearsAfter : (opening : List ℕ) → List Call → List Year
+yearsAfter opening calls = acceptedYears calls (openCall opening .ledger)
+
+-- ---- the calls of a list that stand: its accepted year calls, in their order
+abbrev pub standingCall : Call → Answer → List Call
+standingCall (giving piece) answer = answered answer (λ n. []) (giving piece ∷ [])
+standingCall (closing buffer) answer = []
+
+unfoldable pub standingCalls : List Call → Ledger → List Call
+standingCalls [] l = []
+standingCalls (c ∷ calls) l = standingCall c (called c l .answer) ++ standingCalls calls (afterCall c l)
+
+unfoldable pub standing : (opening : List ℕ) → List Call → List Call
+standing opening calls = standingCalls calls (openCall opening .ledger)

@@ -14,8 +14,7 @@ use Rattle.activity.specs.declared.Activity.the-variants.{Fuel, Nitrogen, Lime}
 use Rattle.activity.specs.Activity.{activityGrams}
 use Rattle.figures.specs.Figures.{creditedOf}
 use Rattle.wire.specs.Signed.{figureAt}
-use Rattle.dossier.specs.Records.{Dossier, dossierBytes}
-use Rattle.reckoner.specs.Ledger.{units}
+use Rattle.dossier.specs.Records.{units, Dossier, dossierBytes}
 use Rattle.reckoner.specs.Calls.{reckonBuffer}
 
 unfoldable pub onlyE : ℕ → List ℕ

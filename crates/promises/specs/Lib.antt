@@ -1,6 +1,7 @@
 pub mod CallList
-pub mod Account
-pub mod Promises
-pub mod DossierPromises
+pub mod Refusals
 pub mod Accepted
+pub mod Reported
+pub mod Lists
+pub mod Dossiers
 pub mod Examples

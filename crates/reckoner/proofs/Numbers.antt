@@ -24,7 +24,7 @@ use Rattle.reckoner.specs.Ledger.{newLedger, openedLedger, givenYear, gi
 use Rattle.reckoner.specs.Calls.{answerNumber, closeCall, dossierCall, reckonNumber}
 
 -- every year given is counted
-given-count : (ys : List Year) (l : Ledger) → givenYears ys l .given ≡ l .given + length ys
+pub given-count : (ys : List Year) (l : Ledger) → givenYears ys l .given ≡ l .given + length ys
 unfolding givenYears
 given-count [] l = omega arith
 given-count (y ∷ ys) l = given-count ys (givenYear y l) ∙ unfold givenYear in omega arith

@@ -1,0 +1,42 @@
+-- Document 01, "Calls and sheet": a dossier is its opening and its years, given to a ledger one after the other and closed.
+-- Assumes nothing.
+use Prim.Native.Nat.{ℕ, _+_, _*_, _≤_}
+use mathlib.Core.Path.{_≡_}
+use mathlib.Core.List.{List, _++_, map}
+use lib.ListN.{length}
+use Rattle.figures.specs.Year.{Year}
+use Rattle.wire.specs.Bytes.{bytes, joined}
+use Rattle.dossier.specs.Marks.{EN}
+use Rattle.dossier.specs.Records.{openingBytes, settled, yearBytes, Dossier, DossierInRange, dossierBytes}
+use Rattle.reckoner.specs.Calls.{answerNumber, openCall, closeCall, closedBuffer, reckonNumber, reckonBuffer}
+use Rattle.promises.specs.CallList.{Call, giving, ledgerAfter, yearsAfter, standing}
+use Rattle.promises.specs.Reported.{Reported}
+use Rattle.promises.specs.Lists.{ListAssured}
+
+-- the whole reckoning of s is an opening and calls, and closing then: the same number, and the same bytes, whatever the buffer
+pub record SameInPieces (s opening : List ℕ) (calls : List Call) : Type 0 where
+  pub number : (size : ℕ) → reckonNumber s size ≡ answerNumber (closeCall (ledgerAfter opening calls) size .answer)
+  pub buffers : (buffer : List ℕ) → reckonBuffer s buffer ≡ closedBuffer (ledgerAfter opening calls) buffer
+
+-- the years of a dossier, each given by its own bytes
+abbrev pub yearCalls : List Year → List Call
+yearCalls years = map (λ (y : Year). giving (yearBytes y)) years
+
+-- "its bytes before the first YR opened, its first y years given, then closed": opening and years are accepted one after the other and bring its
+-- records; demand 3 holds of this list, and so after each of its years; "after its last year the dossier's own balances are meant as well"
+pub record DossierAssured (s : List ℕ) (d : Dossier) : Type 0 where
+  pub pieces : s ≡ openingBytes (d .opening) ++ (joined (map yearBytes (d .years)) ++ bytes 2 EN)
+  pub opened : answerNumber (openCall (openingBytes (d .opening)) .answer) ≡ 0
+  pub stand : standing (openingBytes (d .opening)) (yearCalls (d .years)) ≡ yearCalls (d .years)
+  pub brought : yearsAfter (openingBytes (d .opening)) (yearCalls (d .years)) ≡ d .years
+  pub list : ListAssured (openingBytes (d .opening)) (yearCalls (d .years))
+  pub same : SameInPieces s (openingBytes (d .opening)) (yearCalls (d .years))
+  pub own : (buffer : List ℕ) → 64 * length (d .years) + 32 ≤ length buffer → Reported (settled (d .opening)) (d .years) (reckonBuffer s buffer)
+
+-- what the number 0 says of the bytes and the size of the buffer that the whole reckoning was lent
+pub record CallAssured (s : List ℕ) (size : ℕ) : Type 0 where
+  pub dossier : Dossier
+  pub inRange : DossierInRange dossier
+  pub encoded : s ≡ dossierBytes dossier
+  pub enough : 64 * length (dossier .years) + 32 ≤ size
+  pub assured : DossierAssured s dossier

@@ -1,0 +1,54 @@
+-- Demands 2 and 3 of one closing: what the bytes that it wrote say.
+-- Assumes nothing.
+use Prim.Native.Nat.{ℕ, _+_, _*_, _<_}
+use mathlib.Core.Path.{_≡_}
+use mathlib.Core.List.{List, [], _∷_}
+use lib.IntN.{ℤ, pos, _+ℤ_}
+use lib.ListN.{length, getD}
+use Rattle.arithmetic.specs.Fraction.{Fraction}
+use Rattle.projection.specs.declared.Region.{Region}
+use Rattle.projection.specs.Projection.{projectedRegion}
+use Rattle.figures.specs.declared.Terms.{Terms}
+use Rattle.figures.specs.declared.Figures.{Figures}
+use Rattle.figures.specs.Figures.{tonnesOf, noFigures}
+use Rattle.figures.specs.Year.{Year}
+use Rattle.figures.specs.Reckoning.{yearFigures, recordCount}
+use Rattle.assurance.specs.Unrounded.{Unrounded, openedᶠ, afterYearsᶠ}
+use Rattle.assurance.specs.Assurance.{RegionAssured, TotalAssured}
+use Rattle.wire.specs.Signed.{figureAt}
+use Rattle.report.specs.Report.{eight}
+use Rattle.dossier.specs.Records.{Due}
+
+-- "each year from its own tables": the figures of years one after the other, each over the areas that the projections before it left
+unfoldable pub yearsFigures : Terms → (project belt : Region) → List Year → List Figures
+yearsFigures t project belt [] = []
+yearsFigures t project belt (y ∷ ys) = yearFigures t y project belt ∷ yearsFigures t (projectedRegion (t .matrix) project) (projectedRegion (t .matrix) belt) ys
+
+-- "Period total = sum of credited"
+unfoldable pub periodTotal : List Figures → ℤ
+periodTotal [] = pos 0
+periodTotal (f ∷ fs) = f .credited .0 +ℤ periodTotal fs
+
+-- both regions after years of projection
+unfoldable pub projectedYears : List ℕ → List Year → Region → Region
+projectedYears matrix [] region = region
+projectedYears matrix (y ∷ ys) region = projectedYears matrix ys (projectedRegion matrix region)
+
+-- of a region after y accepted years: the figure read at its place in the bytes that closing wrote is the balance, and with it the projected areas
+-- are as demand 3 says
+pub record RegionReported (y start : ℕ) (figure : ℤ) (region : Region) (unrounded : ℕ → Fraction) : Type 0 where
+  pub decoded : figure ≡ pos (region .balance .0)
+  pub assured : RegionAssured y start (region .areas) (region .balance .0) unrounded
+
+-- the bytes of a closing after accepted years that followed an opening, for what the opening settled: the eight figures of each year from its own
+-- records; the total, the sum of credited, and its tonnes; the total against the unrounded one; the balances against the projected areas
+pub record Reported (due : Due) (years : List Year) (closed : List ℕ) : Type 0 where
+  pub figures : (k j : ℕ) → k < length years → j < 8
+      → figureAt closed (64 * k + 8 * j) ≡ getD (eight (getD (yearsFigures (due .terms) (due .state .project) (due .state .belt) years) k noFigures)) j (pos 0)
+  pub total : figureAt closed (64 * length years) ≡ periodTotal (yearsFigures (due .terms) (due .state .project) (due .state .belt) years)
+  pub tonnes : figureAt closed (64 * length years + 8) ≡ pos (tonnesOf (figureAt closed (64 * length years)))
+  pub assured : TotalAssured (length years) (recordCount years) (figureAt closed (64 * length years)) (afterYearsᶠ (due .terms) years (openedᶠ (due .state)) .total)
+  pub project : RegionReported (length years) (due .terms .start .0) (figureAt closed (64 * length years + 16))
+      (projectedYears (due .terms .matrix) years (due .state .project)) (afterYearsᶠ (due .terms) years (openedᶠ (due .state)) .project)
+  pub belt : RegionReported (length years) (due .terms .beltstart .0) (figureAt closed (64 * length years + 24))
+      (projectedYears (due .terms .matrix) years (due .state .belt)) (afterYearsᶠ (due .terms) years (openedᶠ (due .state)) .belt)
