@@ -17,15 +17,15 @@ pub caseA : sheetOf 2020 1 (written figures [])
     ≡ ascii "year reference project activity belt belt-reference displaced reduction credited\n"
     ++ (ascii "2020 833569000 334766667 318630 0 0 0 498483703 398786962\n"
     ++ ascii "total 398786962 tonnes 398 balance 0 0\n")
-unfolding ascii sheetOf header yearLines yearLine named totalLine spaced decimalOf decimal digits figureAt signed fieldAt number written figuresBytes figureBytes twosComplement bytes
+unfolding sheetOf header yearLines yearLine named totalLine spaced decimalOf decimal digits figureAt signed fieldAt number written figuresBytes figureBytes twosComplement bytes
 caseA = refl
 
 -- "a negative figure carries a minus", the least one too
 pub least : decimalOf (signed 9_223_372_036_854_775_808) ≡ ascii "-9223372036854775808"
-unfolding ascii decimalOf decimal digits signed
+unfolding decimalOf decimal digits signed
 least = refl
 
 -- "refused" and its number
 pub refusal : refusalOf 10 ≡ ascii "refused 10\n"
-unfolding ascii refusalOf decimal digits
+unfolding refusalOf decimal digits
 refusal = refl
