@@ -1,4 +1,4 @@
--- Two texts written one after the other are one text written, the two joined (`sets-append`, on which the rest stands).
+-- Two texts written one after the other are one text written, the two joined.
 -- Assumes nothing.
 use Prim.Native.Nat.{ℕ, suc, _+_, _≤_, _<_}
 use mathlib.Core.Path.{_≡_, refl, _∙_, ap, sym}
@@ -6,13 +6,8 @@ use mathlib.Core.List.{List, [], _∷_, _++_}
 use native.Mathlib.Omega.{arith}
 use lib.ListN.{length, getD, set, take, drop, length-append, drop-of-length-le}
 use lib.Seq.{sets, sets-eq, length-sets, drop-cons, length-take-le}
+use Rattle.wire.proofs.StoreLaws.{sets-append}
 use Rattle.sheet.specs.Put.{Put, Written}
-
-sets-append : (s t l : List ℕ) (i : ℕ) → sets (sets l i s) (i + length s) t ≡ sets l i (s ++ t)
-sets-append [] t l i = ap (λ (k : ℕ). sets l k t) (omega arith)
-sets-append (a ∷ s) t l i =
-    let e : i + suc (length s) ≡ suc i + length s = omega arith in
-    rw e (sets-append s t (set l i a) (suc i))
 
 -- of a text, what is left to write from a place on: writing it gives what writing all of the text gives
 pub record Rest (old : List ℕ) (at : ℕ) (text new : List ℕ) (next : ℕ) (left : List ℕ) : Type 0 where
@@ -25,7 +20,7 @@ rest-all l i w = record { content = refl; place = refl }
 pub rest-less : {l w m n s t : List ℕ} {i j k : ℕ} → Rest l i w m j (s ++ t) → Put m j s k n → Rest l i w n k t
 rest-less {m = m} {s = s} {t = t} {j = j} r p =
     record {
-      content = rw (p .content, p .place) (sets-append s t m j ∙ r .content);
+      content = rw (p .content, p .place) (sym (sets-append m j s t) ∙ r .content);
       place = omega (arith, p .place, r .place, length-append s t);
     }
 
