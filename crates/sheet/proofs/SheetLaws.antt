@@ -3,13 +3,14 @@
 use Prim.Native.Nat.{ℕ, zero, suc, _+_, _-_, _*_, _/_, _^_, _≤_, _<_}
 use mathlib.Core.Path.{_≡_, refl}
 use mathlib.Core.Bool.{Bool, true, false}
-use mathlib.Core.List.{List, [], _∷_, _++_}
+use mathlib.Core.List.{List, [], _++_}
 use native.Mathlib.Omega.{arith}
 use lib.Dec.{ltb}
 use lib.ListN.{length, length-append}
 use borrow.Author.Tests.{ltb-true, ltb-false, lt-ltb, le-ltb}
 use Rattle.wire.specs.Bytes.{fieldAt}
 use Rattle.wire.specs.Signed.{signed, figureAt}
+use Rattle.sheet.specs.Ascii.{ascii}
 use Rattle.sheet.specs.Decimal.{decimal, decimalOf}
 use Rattle.sheet.specs.CallLine.{callLine}
 use Rattle.sheet.specs.Sheet.{spaced, yearLine, yearLines, named, totalLine, header, sheetOf, refusalOf}
@@ -20,7 +21,7 @@ pub figure-above : (n : ℕ) → n < 2 ^ 63 → decimalOf (signed n) ≡ decimal
 unfolding signed decimalOf
 figure-above n h = rw (lt-ltb n (2 ^ 63) h)
 
-pub figure-below : (n : ℕ) → 2 ^ 63 ≤ n → decimalOf (signed n) ≡ (45 ∷ []) ++ decimal (2 ^ 64 - 1 - n + 1)
+pub figure-below : (n : ℕ) → 2 ^ 63 ≤ n → decimalOf (signed n) ≡ ascii "-" ++ decimal (2 ^ 64 - 1 - n + 1)
 unfolding signed decimalOf
 figure-below n h =
     let e : 2 ^ 64 - 1 - n + 1 ≡ suc (2 ^ 64 - 1 - n) = omega arith in
@@ -43,7 +44,7 @@ unfolding spaced
 spaced-none result at = refl
 
 pub spaced-more : (k : ℕ) (result : List ℕ) (at : ℕ) → 0 < k
-    → spaced k result at ≡ (32 ∷ []) ++ (decimalOf (signed (fieldAt 8 result at)) ++ spaced (k - 1) result (at + 8))
+    → spaced k result at ≡ ascii " " ++ (decimalOf (signed (fieldAt 8 result at)) ++ spaced (k - 1) result (at + 8))
 unfolding spaced figureAt
 spaced-more zero result at h = let z : ⊥ = omega arith in absurd z
 spaced-more (suc k) result at h =

@@ -35,10 +35,10 @@ fn put_decimal(out: &mut [u8; 4096], at: usize, n: u64) -> usize
     ensures { λ r. ⌜ Put (now (out .entry)) at (decimal n) r (now (out .exit)) ⌝ }
 {
     if n < 10 {
-        return put_byte(out, at, (48 + n) as u8);
+        return put_byte(out, at, b'0' + n as u8);
     }
     let last = put_decimal(out, at, n / 10);
-    put_byte(out, last, (48 + n % 10) as u8)
+    put_byte(out, last, b'0' + (n % 10) as u8)
 }
 
 // The figure that 64 bits say.

@@ -33,11 +33,11 @@ callees t = (put-byte.Asked, put-byte.Learnt, below t, put-decimal.Post)
 
 module _ (t : ℕ) where
   -- one digit
-  add-put-byte : lts.Need-add-put-byte (callees t) (at t) put-decimal.Post
-  add-put-byte c = search needs
-
   cast-put-byte : lts.Need-cast-put-byte (callees t) (at t) put-decimal.Post
   cast-put-byte c = search needs
+
+  add-put-byte : lts.Need-add-put-byte (callees t) (at t) put-decimal.Post
+  add-put-byte c = search needs
 
   put-byte-requires : lts.Need-put-byte-requires (callees t) (at t) put-decimal.Post
   put-byte-requires c κs =
@@ -55,11 +55,11 @@ module _ (t : ℕ) where
       let n = c .before .before .args .n in
       (omega arith, omega (arith, length-more n (omega arith) (omega arith)))
 
-  add-put-byte-2 : lts.Need-add-put-byte-2 (callees t) (at t) put-decimal.Post
-  add-put-byte-2 c = search needs
-
   cast-put-byte-2 : lts.Need-cast-put-byte-2 (callees t) (at t) put-decimal.Post
   cast-put-byte-2 c = search needs
+
+  add-put-byte-2 : lts.Need-add-put-byte-2 (callees t) (at t) put-decimal.Post
+  add-put-byte-2 c = search needs
 
   put-byte-requires-2 : lts.Need-put-byte-requires-2 (callees t) (at t) put-decimal.Post
   put-byte-requires-2 c κs =
@@ -76,12 +76,12 @@ module _ (t : ℕ) where
 pub +put-decimal-spec : {M : Type 1} → statement M
 +put-decimal-spec =
     close number λ t. lts.spec (callees t) (at t) put-decimal.Post
-    (add-put-byte t)
     (cast-put-byte t)
+    (add-put-byte t)
     (put-byte-requires t)
     (returns t)
     (put-decimal-requires t)
-    (add-put-byte-2 t)
     (cast-put-byte-2 t)
+    (add-put-byte-2 t)
     (put-byte-requires-2 t)
     (returns-2 t)
