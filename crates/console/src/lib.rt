@@ -1,17 +1,20 @@
 // What the testers' programs read and print. What the input brings is free; the contracts say what holds of it.
 use libc::STDIN_FILENO;
 use libc::STDOUT_FILENO;
-ghost use Prim.Native.Nat.{_*_, _≤_, _<_};
+ghost use Prim.Native.Nat.{_≤_};
 ghost use mathlib.Core.Path.{_≡_};
-ghost use lib.ListN.{length};
+ghost use lib.ListN.{length, drop};
+ghost use Rattle.sheet.specs.CallLine.{callLine};
+ghost use Rattle.console.specs.Filled.{filled};
+
+// What a buffer is filled with before a call is lent it.
+pub const FILLING: u8 = 165;
 
 // The next byte on standard input, or 0 where it has ended.
-pub fn read_byte() -> u64
-    ensures { λ r. ⌜ r < 256 ⌝ }
-{
+pub fn read_byte() -> u8 {
     let mut byte = [0u8; 1];
     io::read_full(STDIN_FILENO, &mut byte);
-    wire::field8(&byte, 0)
+    byte[0]
 }
 
 // The next 32-bit length on standard input, or 65,537 where the input has ended or the length is more than 65,536.
@@ -38,11 +41,34 @@ pub fn read_piece(piece: &mut [u8]) -> bool
     io::read_full(STDIN_FILENO, piece) == piece.len()
 }
 
-// Prints the line of a call: its word, its number and the first k figures of a result.
-pub fn print_call(word: &[u8], n: u64, k: u64, result: &[u8])
-    requires { ⌜ (length (now word) ≤ 100) × (n < 256) × (k ≤ 164) × (8 * k ≤ length (now result)) ⌝ }
+// Prints the line of a call: its word, its number and every whole figure of a part of a result; how many bytes the line has.
+pub fn print_call(word: &[u8], n: u8, figures: &[u8]) -> usize
+    requires { ⌜ (length (now word) ≤ 100) × (length (now figures) ≤ 1312) ⌝ }
+    ensures { λ r. ⌜ r ≡ length (callLine (now (word .entry)) n (now (figures .entry))) ⌝ }
 {
     let mut out = io::buffer();
-    let written = sheet::write_call(word, n, k, result, &mut out);
+    let written = sheet::write_call(word, n, figures, &mut out);
     io::write_all(STDOUT_FILENO, &out[..written]);
+    written
+}
+
+// A buffer full of the filling.
+pub fn filled_buffer() -> [u8; 65536]
+    ensures { λ r. ⌜ 65536 ≡ length r ⌝ }
+{
+    [FILLING; 65536]
+}
+
+// Whether a buffer is still filled from a place on.
+pub fn is_filled(buffer: &[u8], from: usize) -> bool
+    ensures { λ r. ⌜ r ≡ filled (drop from (now (buffer .entry))) ⌝ }
+{
+    let mut i = from;
+    while i < buffer.len() {
+        if buffer[i] != FILLING {
+            return false;
+        }
+        i += 1;
+    }
+    true
 }

@@ -49,6 +49,11 @@ accepted-more l s r h e = rw h (go (yearPiece (dueOf l) s) (rw h at e))
     go (refused m) f = clash f
     go (accepted y rest) f = refl
 
+-- a closing hands back the ledger that it was given
+pub closed-same : (l : Ledger) (size : ℕ) (r : Step) → r ≡ closeCall l size → r .ledger .given ≡ l .given
+unfolding closeCall
+closed-same l size r h = rw h
+
 pub closed-fits : (l : Ledger) (size : ℕ) (r : Step) → r ≡ closeCall l size → r .answer ≡ Answer.Accepted → 64 * l .given + 32 ≤ size
 unfolding closeCall
 closed-fits l size r h e = go (ltb size (64 * l .given + 32)) refl (rw h at e)

@@ -3,19 +3,21 @@
 // A call is `O` (open) or `Y` (year), a big-endian 32-bit length up to 65,536 and that many bytes; or `C` (close) and the
 // big-endian 32-bit length of a buffer, up to 65,536. Before any `O` the ledger is the empty one. The list ends where a call
 // is cut or is none of these. A line is `open N`, `year N` or `close N`, N the call's number; after an accepted closing of k
-// years the 8 × k + 4 numbers that it wrote follow, each after a space.
+// years the 8 × k + 4 numbers that it wrote follow, each after a space. A closing is lent a buffer full of one byte; where a byte
+// beyond the report, or after a refusal any byte, is another one, the line `buffer changed` follows.
+use libc::STDOUT_FILENO;
 use reckoner::Answer;
 use reckoner::Ledger;
 ghost use Prim.Native.Nat.{_<_};
 ghost use mathlib.Core.Path.{_≡_};
 ghost use Rattle.ledgertrace.specs.Trace.{Traced};
 
-// The bytes O, Y and C.
-const OPEN: u64 = 0x4f;
+// What a call begins with.
+const OPEN: u8 = b'O';
 
-const YEAR: u64 = 0x59;
+const YEAR: u8 = b'Y';
 
-const CLOSE: u64 = 0x43;
+const CLOSE: u8 = b'C';
 
 // The ledger, how many years it was given, and how many more calls the list may have: none once it has ended.
 struct Trace {
@@ -33,8 +35,12 @@ fn trace_open(mut trace: Trace, piece: &[u8]) -> Trace
     trace.ledger = ledger;
     trace.given = 0;
     match answer {
-        Answer::Refused(n) => console::print_call(b"open", n as u64, 0, piece),
-        Answer::Accepted => console::print_call(b"open", 0, 0, piece),
+        Answer::Refused(n) => {
+            console::print_call(b"open", n, b"");
+        }
+        Answer::Accepted => {
+            console::print_call(b"open", 0, b"");
+        }
     }
     trace
 }
@@ -49,25 +55,43 @@ fn trace_year(mut trace: Trace, piece: &[u8]) -> Trace
     let answer = step.answer;
     trace.ledger = ledger;
     match answer {
-        Answer::Refused(n) => console::print_call(b"year", n as u64, 0, piece),
+        Answer::Refused(n) => {
+            console::print_call(b"year", n, b"");
+        }
         Answer::Accepted => {
             trace.given = trace.given + 1;
-            console::print_call(b"year", 0, 0, piece);
+            console::print_call(b"year", 0, b"");
         }
     }
     trace
 }
 
-fn trace_close(trace: Trace, result: &mut [u8]) -> Trace
+// Prints a line where a buffer is no longer filled from a place on.
+fn print_changed(buffer: &[u8], from: usize) {
+    if !console::is_filled(buffer, from) {
+        io::write_all(STDOUT_FILENO, b"buffer changed\n");
+    }
+}
+
+fn trace_close(mut trace: Trace, result: &mut [u8]) -> Trace
     requires { ⌜ Traced trace ⌝ }
-    ensures { λ r. ⌜ r ≡ trace ⌝ }
+    ensures { λ r. ⌜ Traced r × (r .left ≡ trace .left) ⌝ }
 {
-    let ledger = trace.ledger;
-    let step = ledger.close(result);
+    let before = trace.ledger;
+    let step = before.close(result);
+    let ledger = step.ledger;
     let answer = step.answer;
+    trace.ledger = ledger;
     match answer {
-        Answer::Refused(n) => console::print_call(b"close", n as u64, 0, result),
-        Answer::Accepted => console::print_call(b"close", 0, 8 * trace.given + 4, result),
+        Answer::Refused(n) => {
+            console::print_call(b"close", n, b"");
+            print_changed(result, 0);
+        }
+        Answer::Accepted => {
+            let end = (64 * trace.given + 32) as usize;
+            console::print_call(b"close", 0, &result[..end]);
+            print_changed(result, end);
+        }
     }
     trace
 }
@@ -79,7 +103,7 @@ fn trace_call(mut trace: Trace) -> Trace
 {
     let mark = console::read_byte();
     let length = console::read_length();
-    let mut space = io::large_buffer();
+    let mut space = console::filled_buffer();
     trace.left = trace.left - 1;
     if length <= 65536 {
         if mark == CLOSE {

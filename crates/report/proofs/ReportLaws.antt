@@ -3,28 +3,24 @@
 use mathlib.Core.Path.{_≡_, refl, _∙_, ap, sym}
 use mathlib.Core.List.{List, [], _∷_, _++_, append-assoc, append-nil}
 use Prim.Native.Nat.{ℕ, suc, _+_, _*_, _^_, _≤_, _<_}
-use native.Mathlib.Nat.{add-zero}
 use native.Mathlib.Numerals.{add-one}
 use native.Mathlib.Omega.{arith}
 use lib.IntN.{ℤ, pos, negsuc}
 use lib.Signed.{mag}
-use lib.ListN.{length, take, getD, set, length-append}
+use lib.ListN.{length, take, getD, length-append}
 use lib.Seq.{sets, take-suc, length-take-le}
 use Rattle.wire.specs.Signed.{figureBytes, figuresBytes, written}
+use Rattle.wire.proofs.StoreLaws.{sets-append}
 use Rattle.wire.proofs.SignedLaws.{length-figure, written-next}
 use Rattle.figures.specs.declared.Figures.{Figures}
 use Rattle.figures.specs.Figures.{tonnesOf}
 use Rattle.report.specs.Report.{eight, eights, closing, reported}
 
--- stores of one list right after another are stores of both
-sets-append : (v w s : List ℕ) (at : ℕ) → sets s at (v ++ w) ≡ sets (sets s at v) (at + length v) w
-sets-append [] w s at = simp add-zero
-sets-append (x ∷ v) w s at = sets-append v w (set s at x) (suc at) ∙ ap (λ (n : ℕ). sets (sets (set s at x) (suc at) v) n w) (omega arith)
-
 -- a list of figures is stored figure after figure
-stored-next : (z : ℤ) (rest : List ℤ) (s : List ℕ) (at next : ℕ) → at + 8 ≡ next → sets s at (figuresBytes (z ∷ rest)) ≡ sets (sets s at (figureBytes z)) next (figuresBytes rest)
+stored-next : (z : ℤ) (rest : List ℤ) (s : List ℕ) (at next : ℕ) → at + 8 ≡ next
+    → sets s at (figuresBytes (z ∷ rest)) ≡ sets (sets s at (figureBytes z)) next (figuresBytes rest)
 unfolding figuresBytes
-stored-next z rest s at next e = sets-append (figureBytes z) (figuresBytes rest) s at ∙ rw (length-figure z, e)
+stored-next z rest s at next e = sets-append s at (figureBytes z) (figuresBytes rest) ∙ rw (length-figure z, e)
 
 -- no figure is stored
 stored-none : (s : List ℕ) (at : ℕ) → sets s at (figuresBytes []) ≡ s
@@ -42,7 +38,8 @@ stored-four a b c d s at =
     ∙ stored-none _ (at + 32))
 
 -- figures stored right after stored ones
-pub stored-more : (xs ys : List ℤ) (s : List ℕ) (at next : ℕ) → at + 8 * length xs ≡ next → sets (sets s at (figuresBytes xs)) next (figuresBytes ys) ≡ sets s at (figuresBytes (xs ++ ys))
+pub stored-more : (xs ys : List ℤ) (s : List ℕ) (at next : ℕ) → at + 8 * length xs ≡ next
+    → sets (sets s at (figuresBytes xs)) next (figuresBytes ys) ≡ sets s at (figuresBytes (xs ++ ys))
 stored-more [] ys s at next e = rw stored-none (ap (λ (n : ℕ). sets s n (figuresBytes ys)) (omega arith))
 stored-more (x ∷ xs) ys s at next e =
     rw (stored-next x xs s at (at + 8) refl) (stored-more xs ys (sets s at (figureBytes x)) (at + 8) next (omega arith))

@@ -1,5 +1,6 @@
 -- Decimal figures: the equation without the count of digits, their number, and the number that they say.
 -- Assumes nothing.
+use Prim.Native.Char.{code}
 use Prim.Native.Nat.{ℕ, zero, suc, _+_, _-_, _*_, _^_, _/_, _%_, _≤_, _<_}
 use mathlib.Core.Path.{_≡_, refl, _∙_, ap, sym}
 use mathlib.Core.Bool.{Bool, true, false, cond}
@@ -10,7 +11,7 @@ use lib.Dec.{ltb, lit<, lit≤}
 use lib.Pow.{pow-add}
 use lib.ListN.{length, length-append}
 use borrow.Author.Tests.{ltb-true, lt-ltb, le-ltb}
-use Rattle.sheet.specs.Decimal.{digits, decimal}
+use Rattle.sheet.specs.Decimal.{digit, digits, decimal}
 
 -- a tenth has one digit less
 tenth-lt : (k n : ℕ) → n < 10 ^ suc k → n / 10 < 10 ^ k
@@ -21,19 +22,19 @@ unfolding digits
 digits-more zero n h = rw (lt-ltb n 10 h)
 digits-more (suc k) n h = rw (digits-more k (n / 10) (tenth-lt (suc k) n h))
 
-digits-is : (k n : ℕ) → n < 10 ^ suc (suc k) → digits (suc k) n ≡ cond (ltb n 10) ((48 + n) ∷ []) (digits (suc k) (n / 10) ++ ((48 + n % 10) ∷ []))
+digits-is : (k n : ℕ) → n < 10 ^ suc (suc k) → digits (suc k) n ≡ cond (ltb n 10) (digit n ∷ []) (digits (suc k) (n / 10) ++ (digit (n % 10) ∷ []))
 unfolding digits
 digits-is k n h =
-    ap (λ (l : List ℕ). cond (ltb n 10) ((48 + n) ∷ []) (l ++ ((48 + n % 10) ∷ []))) (sym (digits-more k (n / 10) (tenth-lt (suc k) n h)))
+    ap (λ (l : List ℕ). cond (ltb n 10) (digit n ∷ []) (l ++ (digit (n % 10) ∷ []))) (sym (digits-more k (n / 10) (tenth-lt (suc k) n h)))
 
-pub decimal-is : (n : ℕ) → n < 10 ^ 20 → decimal n ≡ cond (ltb n 10) ((48 + n) ∷ []) (decimal (n / 10) ++ ((48 + n % 10) ∷ []))
+pub decimal-is : (n : ℕ) → n < 10 ^ 20 → decimal n ≡ cond (ltb n 10) (digit n ∷ []) (decimal (n / 10) ++ (digit (n % 10) ∷ []))
 unfolding decimal
 decimal-is n h = digits-is 18 n h
 
-pub decimal-one : (n : ℕ) → n < 10 → decimal n ≡ (48 + n) ∷ []
+pub decimal-one : (n : ℕ) → n < 10 → decimal n ≡ digit n ∷ []
 decimal-one n h = decimal-is n (omega arith) ∙ rw (lt-ltb n 10 h)
 
-pub decimal-more : (n : ℕ) → 10 ≤ n → n < 10 ^ 20 → decimal n ≡ decimal (n / 10) ++ ((48 + n % 10) ∷ [])
+pub decimal-more : (n : ℕ) → 10 ≤ n → n < 10 ^ 20 → decimal n ≡ decimal (n / 10) ++ (digit (n % 10) ∷ [])
 decimal-more n h l = decimal-is n l ∙ rw (le-ltb n 10 h)
 
 -- what holds of both arms
@@ -55,27 +56,27 @@ unfolding decimal
 length-decimal k n h = length-digits 19 k n h
 
 pub length-more : (n : ℕ) → 10 ≤ n → n < 10 ^ 20 → length (decimal n) ≡ length (decimal (n / 10)) + 1
-length-more n h l = ap length (decimal-more n h l) ∙ length-append (decimal (n / 10)) ((48 + n % 10) ∷ [])
+length-more n h l = ap length (decimal-more n h l) ∙ length-append (decimal (n / 10)) (digit (n % 10) ∷ [])
 
 -- ---- each byte is a digit, and read as a number in base 10 they say n
 abbrev pub Digits : List ℕ → Type 0
 Digits [] = Unit {0}
-Digits (d ∷ s) = (48 ≤ d) × (d < 58) × Digits s
+Digits (d ∷ s) = (code "0" ≤ d) × (d ≤ code "9") × Digits s
 
 unfoldable pub value : List ℕ → ℕ
 value [] = 0
-value (d ∷ s) = (d - 48) * 10 ^ length s + value s
+value (d ∷ s) = (d - code "0") * 10 ^ length s + value s
 
-value-last : (s : List ℕ) (d : ℕ) → d < 10 → value (s ++ ((48 + d) ∷ [])) ≡ value s * 10 + d
+value-last : (s : List ℕ) (d : ℕ) → d < 10 → value (s ++ (digit d ∷ [])) ≡ value s * 10 + d
 unfolding value
 value-last [] d h = omega arith
-value-last (b ∷ s) d h = rw (value-last s d h, length-append s ((48 + d) ∷ []), pow-add 10 (length s) 1) (omega arith)
+value-last (b ∷ s) d h = rw (value-last s d h, length-append s (digit d ∷ []), pow-add 10 (length s) 1) (omega arith)
 
-value-one : (d : ℕ) → d < 10 → value ((48 + d) ∷ []) ≡ d
+value-one : (d : ℕ) → d < 10 → value (digit d ∷ []) ≡ d
 unfolding value
 value-one d h = omega arith
 
-digits-last : (s : List ℕ) (d : ℕ) → d < 10 → Digits s → Digits (s ++ ((48 + d) ∷ []))
+digits-last : (s : List ℕ) (d : ℕ) → d < 10 → Digits s → Digits (s ++ (digit d ∷ []))
 digits-last [] d h g = (omega arith, omega arith, tt)
 digits-last (b ∷ s) d h g = (g .0, g .1, digits-last s d h (g .2))
 

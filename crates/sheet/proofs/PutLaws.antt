@@ -1,18 +1,13 @@
--- Two texts written one after the other are one text written, the two joined (`sets-append`, on which the rest stands).
+-- Two texts written one after the other are one text written, the two joined.
 -- Assumes nothing.
 use Prim.Native.Nat.{ℕ, suc, _+_, _≤_, _<_}
 use mathlib.Core.Path.{_≡_, refl, _∙_, ap, sym}
 use mathlib.Core.List.{List, [], _∷_, _++_}
 use native.Mathlib.Omega.{arith}
-use lib.ListN.{length, getD, set, drop, length-append, drop-of-length-le}
-use lib.Seq.{sets, sets-eq, length-sets, drop-cons}
-use Rattle.sheet.specs.Put.{Put}
-
-sets-append : (s t l : List ℕ) (i : ℕ) → sets (sets l i s) (i + length s) t ≡ sets l i (s ++ t)
-sets-append [] t l i = ap (λ (k : ℕ). sets l k t) (omega arith)
-sets-append (a ∷ s) t l i =
-    let e : i + suc (length s) ≡ suc i + length s = omega arith in
-    rw e (sets-append s t (set l i a) (suc i))
+use lib.ListN.{length, getD, set, take, drop, length-append, drop-of-length-le}
+use lib.Seq.{sets, sets-eq, length-sets, drop-cons, length-take-le}
+use Rattle.wire.proofs.StoreLaws.{sets-append}
+use Rattle.sheet.specs.Put.{Put, Written}
 
 -- of a text, what is left to write from a place on: writing it gives what writing all of the text gives
 pub record Rest (old : List ℕ) (at : ℕ) (text new : List ℕ) (next : ℕ) (left : List ℕ) : Type 0 where
@@ -25,7 +20,7 @@ rest-all l i w = record { content = refl; place = refl }
 pub rest-less : {l w m n s t : List ℕ} {i j k : ℕ} → Rest l i w m j (s ++ t) → Put m j s k n → Rest l i w n k t
 rest-less {m = m} {s = s} {t = t} {j = j} r p =
     record {
-      content = rw (p .content, p .place) (sets-append s t m j ∙ r .content);
+      content = rw (p .content, p .place) (sym (sets-append m j s t) ∙ r .content);
       place = omega (arith, p .place, r .place, length-append s t);
     }
 
@@ -45,15 +40,17 @@ pub put-one : (l : List ℕ) (i a : ℕ) → Put l i (a ∷ []) (i + 1) (set l i
 put-one l i a = record { content = refl; place = refl }
 
 -- what is written from the start
-pub put-start : {l m s : List ℕ} {j : ℕ} → length s ≤ length l → Put l 0 s j m → (j ≡ length s) × (m ≡ s ++ drop j l)
+pub put-start : {l m s : List ℕ} {j : ℕ} → length s ≤ length l → Put l 0 s j m → Written s l j m
 put-start {l} {m} {s} {j} h p =
-    let e : j ≡ length s = omega (arith, p .place) in
     let k : 0 + length s ≡ j = omega (arith, p .place) in
-    (e, p .content ∙ rw k at (sets-eq s l 0 (omega arith)))
+    record { count = omega (arith, p .place); content = p .content ∙ rw k at (sets-eq s l 0 (omega arith)) }
 
 -- so a text that begins a list ends inside it
-pub written-inside : (text old : List ℕ) {new : List ℕ} {n : ℕ} → n ≡ length text → new ≡ text ++ drop n old → n ≤ length new
-written-inside text old {new} {n} e f = omega (arith, e, ap length f ∙ length-append text (drop n old))
+pub written-inside : {text old new : List ℕ} {n : ℕ} → Written text old n new → n ≤ length new
+written-inside {text} {old} {new} {n} w = omega (arith, w .count, ap length (w .content) ∙ length-append text (drop n old))
+
+pub written-taken : {text old new : List ℕ} {n : ℕ} → Written text old n new → n ≡ length (take n new)
+written-taken w = sym (length-take-le _ _ (written-inside w))
 
 -- of a text copied byte by byte, i bytes stand: one more byte, and none left
 pub copied-more : {l m : List ℕ} {at : ℕ} (text : List ℕ) (i : ℕ) → i < length text → Rest l at text m (at + i) (drop i text)

@@ -1,10 +1,12 @@
--- The line that the testers' programs print for a call, in ASCII.
+-- The line that the testers' programs print for a call.
 -- Assumes nothing.
-use Prim.Native.Nat.{ℕ}
-use mathlib.Core.List.{List, [], _∷_, _++_}
+use Prim.Native.Nat.{ℕ, _/_}
+use mathlib.Core.List.{List, _++_}
+use lib.ListN.{length}
+use Rattle.sheet.specs.Ascii.{ascii}
 use Rattle.sheet.specs.Decimal.{decimal}
 use Rattle.sheet.specs.Sheet.{spaced}
 
--- a word, the call's number and the first k figures of a result, each after a space, and a line feed
-unfoldable pub callLine : List ℕ → (n k : ℕ) → List ℕ → List ℕ
-callLine word n k result = word ++ ((32 ∷ []) ++ (decimal n ++ (spaced k result 0 ++ (10 ∷ []))))
+-- a word, the call's number and every whole figure of a part of a result, each after a space, and a line feed
+unfoldable pub callLine : List ℕ → ℕ → List ℕ → List ℕ
+callLine word n figures = word ++ (ascii " " ++ (decimal n ++ (spaced (length figures / 8) figures 0 ++ ascii "\n")))

@@ -1,15 +1,21 @@
 -- Decimal figures. In proofs/DecimalLaws `decimal-is` is the equation without the count of digits, and `value-decimal` reads them back.
 -- Assumes nothing.
 use Prim.Native.Nat.{ℕ, zero, suc, _+_, _/_, _%_}
+use Prim.Native.Char.{code}
 use mathlib.Core.Bool.{cond}
 use mathlib.Core.List.{List, [], _∷_, _++_}
 use lib.Dec.{ltb}
 use lib.IntN.{ℤ, pos, negsuc}
+use Rattle.sheet.specs.Ascii.{ascii}
 
--- the digits of a number of at most k + 1 digits, in ASCII, the most significant first
+-- the digit of a number below 10
+abbrev pub digit : ℕ → ℕ
+digit n = code "0" + n
+
+-- the digits of a number of at most k + 1 digits, the most significant first
 unfoldable pub digits : ℕ → ℕ → List ℕ
-digits zero n = (48 + n) ∷ []
-digits (suc k) n = cond (ltb n 10) ((48 + n) ∷ []) (digits k (n / 10) ++ ((48 + n % 10) ∷ []))
+digits zero n = digit n ∷ []
+digits (suc k) n = cond (ltb n 10) (digit n ∷ []) (digits k (n / 10) ++ (digit (n % 10) ∷ []))
 
 -- a number below 10^20
 unfoldable pub decimal : ℕ → List ℕ
@@ -18,4 +24,4 @@ decimal n = digits 19 n
 -- "a negative figure carries a minus"
 unfoldable pub decimalOf : ℤ → List ℕ
 decimalOf (pos n) = decimal n
-decimalOf (negsuc n) = 45 ∷ decimal (suc n)
+decimalOf (negsuc n) = ascii "-" ++ decimal (suc n)

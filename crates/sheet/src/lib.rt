@@ -1,17 +1,16 @@
 // The sheet of a reckoning as text, made from the result buffer into a lent output.
-ghost use mathlib.Core.Path.{_≡_};
-ghost use Prim.Native.Nat.{_+_, _*_, _≤_, _<_};
-ghost use mathlib.Core.List.{[], _∷_, _++_};
-ghost use lib.ListN.{length, drop};
+ghost use Prim.Native.Nat.{_+_, _*_, _≤_};
+ghost use mathlib.Core.List.{[], _∷_};
+ghost use lib.ListN.{length};
 ghost use Rattle.wire.specs.Signed.{signed};
 ghost use Rattle.sheet.specs.Decimal.{decimal, decimalOf};
-ghost use Rattle.sheet.specs.Put.{Put};
+ghost use Rattle.sheet.specs.Put.{Put, Written};
 ghost use Rattle.sheet.specs.CallLine.{callLine};
-ghost use Rattle.sheet.specs.Sheet.{spaced, yearLine, yearLines, totalLine, sheetOf, refusalOf};
+ghost use Rattle.sheet.specs.Sheet.{spaced, named, yearLine, yearLines, totalLine, sheetOf, refusalOf};
 
-// Each writer puts its text at a place and answers the place after it. It asks for room for the longest text.
-fn put_byte(out: &mut [u8], at: usize, byte: u8) -> usize
-    requires { ⌜ at + 1 ≤ length (now out) ⌝ }
+// Each writer puts its text into the output at a place and answers the place after it. It asks for room for the longest text.
+fn put_byte(out: &mut [u8; 4096], at: usize, byte: u8) -> usize
+    requires { ⌜ at + 1 ≤ 4096 ⌝ }
     ensures { λ r. ⌜ Put (now (out .entry)) at (byte ∷ []) r (now (out .exit)) ⌝ }
 {
     out[at] = byte;
@@ -31,20 +30,20 @@ fn put_text(out: &mut [u8], at: usize, text: &[u8]) -> usize
 }
 
 // A number in decimal figures.
-fn put_decimal(out: &mut [u8], at: usize, n: u64) -> usize
-    requires { ⌜ at + length (decimal n) ≤ length (now out) ⌝ }
+fn put_decimal(out: &mut [u8; 4096], at: usize, n: u64) -> usize
+    requires { ⌜ at + length (decimal n) ≤ 4096 ⌝ }
     ensures { λ r. ⌜ Put (now (out .entry)) at (decimal n) r (now (out .exit)) ⌝ }
 {
     if n < 10 {
-        return put_byte(out, at, (48 + n) as u8);
+        return put_byte(out, at, b'0' + n as u8);
     }
     let last = put_decimal(out, at, n / 10);
-    put_byte(out, last, (48 + n % 10) as u8)
+    put_byte(out, last, b'0' + (n % 10) as u8)
 }
 
 // The figure that 64 bits say.
-fn put_figure(out: &mut [u8], at: usize, bits: u64) -> usize
-    requires { ⌜ at + 20 ≤ length (now out) ⌝ }
+fn put_figure(out: &mut [u8; 4096], at: usize, bits: u64) -> usize
+    requires { ⌜ at + 20 ≤ 4096 ⌝ }
     ensures { λ r. ⌜ Put (now (out .entry)) at (decimalOf (signed bits)) r (now (out .exit)) ⌝ }
 {
     if bits < 9223372036854775808 {
@@ -55,8 +54,8 @@ fn put_figure(out: &mut [u8], at: usize, bits: u64) -> usize
 }
 
 // The figures of a result buffer from a place on, each after a space.
-fn put_spaced(out: &mut [u8], at: usize, k: u64, result: &[u8], from: usize) -> usize
-    requires { ⌜ (from + 8 * k ≤ length (now result)) × (at + 21 * k ≤ length (now out)) ⌝ }
+fn put_spaced(out: &mut [u8; 4096], at: usize, k: u64, result: &[u8], from: usize) -> usize
+    requires { ⌜ (from + 8 * k ≤ length (now result)) × (at + 21 * k ≤ 4096) ⌝ }
     ensures { λ r. ⌜ Put (now (out .entry)) at (spaced k (now (result .entry)) from) r (now (out .exit)) ⌝ }
 {
     let mut left = k;
@@ -72,8 +71,14 @@ fn put_spaced(out: &mut [u8], at: usize, k: u64, result: &[u8], from: usize) -> 
     place
 }
 
-fn put_year_line(out: &mut [u8], at: usize, year: u64, result: &[u8], from: usize) -> usize
-    requires { ⌜ (from + 64 ≤ length (now result)) × (at + 189 ≤ length (now out)) ⌝ }
+fn put_year_line(
+    out: &mut [u8; 4096],
+    at: usize,
+    year: u64,
+    result: &[u8; 1312],
+    from: usize,
+) -> usize
+    requires { ⌜ (from + 64 ≤ 1312) × (at + 189 ≤ 4096) ⌝ }
     ensures { λ r. ⌜ Put (now (out .entry)) at (yearLine year (now (result .entry)) from) r (now (out .exit)) ⌝ }
 {
     let after_year = put_decimal(out, at, year);
@@ -82,13 +87,13 @@ fn put_year_line(out: &mut [u8], at: usize, year: u64, result: &[u8], from: usiz
 }
 
 // The lines of n years from the first on.
-fn put_year_lines(out: &mut [u8], at: usize, n: u64, first: u64, result: &[u8]) -> usize
-    requires { ⌜ (first + n < 65536) × (64 * n ≤ length (now result)) × (at + 189 * n ≤ length (now out)) ⌝ }
+fn put_year_lines(out: &mut [u8; 4096], at: usize, n: u64, first: u16, result: &[u8; 1312]) -> usize
+    requires { ⌜ (n ≤ 20) × (at + 189 * n ≤ 4096) ⌝ }
     ensures { λ r. ⌜ Put (now (out .entry)) at (yearLines n first (now (result .entry)) 0) r (now (out .exit)) ⌝ }
 {
     let mut left = n;
     let mut place = at;
-    let mut year = first;
+    let mut year = first as u64;
     let mut source = 0;
     while left > 0 {
         place = put_year_line(out, place, year, result, source);
@@ -100,16 +105,23 @@ fn put_year_lines(out: &mut [u8], at: usize, n: u64, first: u64, result: &[u8]) 
 }
 
 // A word and the figures that it names.
-fn put_named(out: &mut [u8], at: usize, word: &[u8], k: u64, result: &[u8], from: usize) -> usize
-    requires { ⌜ (from + 8 * k ≤ length (now result)) × (at + length (now word) + 21 * k ≤ length (now out)) ⌝ }
-    ensures { λ r. ⌜ Put (now (out .entry)) at (now (word .entry) ++ spaced k (now (result .entry)) from) r (now (out .exit)) ⌝ }
+fn put_named(
+    out: &mut [u8; 4096],
+    at: usize,
+    word: &[u8],
+    k: u64,
+    result: &[u8],
+    from: usize,
+) -> usize
+    requires { ⌜ (from + 8 * k ≤ length (now result)) × (at + length (now word) + 21 * k ≤ 4096) ⌝ }
+    ensures { λ r. ⌜ Put (now (out .entry)) at (named (now (word .entry)) k (now (result .entry)) from) r (now (out .exit)) ⌝ }
 {
     let after_word = put_text(out, at, word);
     put_spaced(out, after_word, k, result, from)
 }
 
-fn put_total_line(out: &mut [u8], at: usize, result: &[u8], from: usize) -> usize
-    requires { ⌜ (from + 32 ≤ length (now result)) × (at + 105 ≤ length (now out)) ⌝ }
+fn put_total_line(out: &mut [u8; 4096], at: usize, result: &[u8; 1312], from: usize) -> usize
+    requires { ⌜ (from + 32 ≤ 1312) × (at + 105 ≤ 4096) ⌝ }
     ensures { λ r. ⌜ Put (now (out .entry)) at (totalLine (now (result .entry)) from) r (now (out .exit)) ⌝ }
 {
     let after_total = put_named(out, at, b"total", 1, result, from);
@@ -119,9 +131,9 @@ fn put_total_line(out: &mut [u8], at: usize, result: &[u8], from: usize) -> usiz
 }
 
 // The sheet of n years from the first on; the number of bytes written. The bytes beyond keep their content.
-pub fn write_sheet(first: u64, n: u64, result: &[u8], out: &mut [u8]) -> usize
-    requires { ⌜ (first + n < 65536) × (n ≤ 20) × (64 * n + 32 ≤ length (now result)) × (4096 ≤ length (now out)) ⌝ }
-    ensures { λ r. ⌜ (r ≡ length (sheetOf first n (now (result .entry)))) × (now (out .exit) ≡ sheetOf first n (now (result .entry)) ++ drop r (now (out .entry))) ⌝ }
+pub fn write_sheet(first: u16, n: u64, result: &[u8; 1312], out: &mut [u8; 4096]) -> usize
+    requires { ⌜ n ≤ 20 ⌝ }
+    ensures { λ r. ⌜ Written (sheetOf first n (now (result .entry))) (now (out .entry)) r (now (out .exit)) ⌝ }
 {
     let after_header = put_text(
         out,
@@ -133,23 +145,22 @@ pub fn write_sheet(first: u64, n: u64, result: &[u8], out: &mut [u8]) -> usize
 }
 
 // The line of a refusal; the number of bytes written.
-pub fn write_refusal(n: u64, out: &mut [u8]) -> usize
-    requires { ⌜ (n < 256) × (4096 ≤ length (now out)) ⌝ }
-    ensures { λ r. ⌜ (r ≡ length (refusalOf n)) × (now (out .exit) ≡ refusalOf n ++ drop r (now (out .entry))) ⌝ }
+pub fn write_refusal(n: u8, out: &mut [u8; 4096]) -> usize
+    ensures { λ r. ⌜ Written (refusalOf n) (now (out .entry)) r (now (out .exit)) ⌝ }
 {
-    let word = put_text(out, 0, b"refused ");
-    let number = put_decimal(out, word, n);
-    put_byte(out, number, b'\n')
+    let after_word = put_text(out, 0, b"refused ");
+    let after_number = put_decimal(out, after_word, n as u64);
+    put_byte(out, after_number, b'\n')
 }
 
-// The line of a call, for testers: its word, its number and the first k figures of a result; the number of bytes written.
-pub fn write_call(word: &[u8], n: u64, k: u64, result: &[u8], out: &mut [u8]) -> usize
-    requires { ⌜ (length (now word) ≤ 100) × (n < 256) × (k ≤ 164) × (8 * k ≤ length (now result)) × (4096 ≤ length (now out)) ⌝ }
-    ensures { λ r. ⌜ (r ≡ length (callLine (now (word .entry)) n k (now (result .entry)))) × (now (out .exit) ≡ callLine (now (word .entry)) n k (now (result .entry)) ++ drop r (now (out .entry))) ⌝ }
+// The line of a call, for testers: its word, its number and every whole figure of a part of a result; the number of bytes written.
+pub fn write_call(word: &[u8], n: u8, figures: &[u8], out: &mut [u8; 4096]) -> usize
+    requires { ⌜ (length (now word) ≤ 100) × (length (now figures) ≤ 1312) ⌝ }
+    ensures { λ r. ⌜ Written (callLine (now (word .entry)) n (now (figures .entry))) (now (out .entry)) r (now (out .exit)) ⌝ }
 {
     let after_word = put_text(out, 0, word);
     let after_space = put_byte(out, after_word, b' ');
-    let after_number = put_decimal(out, after_space, n);
-    let end = put_spaced(out, after_number, k, result, 0);
+    let after_number = put_decimal(out, after_space, n as u64);
+    let end = put_spaced(out, after_number, (figures.len() / 8) as u64, figures, 0);
     put_byte(out, end, b'\n')
 }

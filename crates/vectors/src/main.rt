@@ -3,23 +3,23 @@
 // A vector is a label of up to 100 bytes and a dossier of up to 65,536, each after its big-endian 32-bit length, and such a
 // length of a buffer, up to 1,312. The list ends where a vector is cut or longer. A line is the label and the number; of an
 // accepted dossier every whole 64-bit number of the buffer follows, those beyond the report too.
+use console::FILLING;
 use libc::STDOUT_FILENO;
 ghost use Prim.Native.Nat.{_≤_};
 ghost use lib.ListN.{length};
 
-// The line of a vector, and another one where a refusal changed the buffer, which is full of 165 before the call.
+// The line of a vector, and another one where a refusal changed the buffer.
 fn print_vector(label: &[u8], dossier: &[u8], room: usize)
     requires { ⌜ (length (now label) ≤ 100) × (room ≤ 1312) ⌝ }
 {
-    let lent = [165u8; 1312];
-    let mut result = [165u8; 1312];
+    let mut result = [FILLING; 1312];
     let n = reckoner::reckon(dossier, &mut result[..room]);
     if n == 0 {
-        console::print_call(label, 0, (room / 8) as u64, &result);
+        console::print_call(label, 0, &result[..room]);
         return;
     }
-    console::print_call(label, n as u64, 0, &result);
-    if !check::same(&result, &lent) {
+    console::print_call(label, n, b"");
+    if !console::is_filled(&result, 0) {
         io::write_all(STDOUT_FILENO, b"a refusal that changed the buffer\n");
     }
 }

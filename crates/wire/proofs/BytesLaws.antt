@@ -3,7 +3,8 @@
 use Prim.Native.Nat.{ℕ, zero, suc, _+_, _*_, _^_, _/_, _%_, _<_, _≤_}
 use mathlib.Core.Path.{_≡_, refl, _∙_, ap, sym}
 use mathlib.Core.List.{List, [], _∷_, _++_, append-assoc}
-use native.Mathlib.Nat.{pow-suc, add-zero, zero-mul, mul-comm, mul-assoc, mul-le-mul-right, mod-lt, mod-eq-of-lt, div-eq-of-lt, div-lt-iff-lt-mul, div-add-mod', mul-add-div-right, mul-add-mod-self-right}
+use native.Mathlib.Nat.{pow-suc, add-zero, zero-mul, mul-comm, mul-assoc, mul-le-mul-right, mod-lt, mod-eq-of-lt, div-eq-of-lt}
+use native.Mathlib.Nat.{div-lt-iff-lt-mul, div-add-mod', mul-add-div-right, mul-add-mod-self-right}
 use native.Mathlib.Omega.{arith}
 use lib.Dec.{lit<}
 use lib.ListN.{length, take, drop, getD, length-append, length-drop, take-append-drop}

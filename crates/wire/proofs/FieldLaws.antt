@@ -29,10 +29,13 @@ field-parts : (v w : ℕ) (s : List ℕ) (at next : ℕ) → at + v ≡ next →
 field-parts v w s at next e h = rw (← e) (field-joined v w s at h)
 
 -- eight bytes, each at its weight
-pub field-eight : (s : List ℕ) (at : ℕ) → at + 8 ≤ length s → (a b c d e f g h : ℕ) → a ≡ fieldAt 1 s at → b ≡ fieldAt 1 s (at + 1) → c ≡ fieldAt 1 s (at + 2) → d ≡ fieldAt 1 s (at + 3)
-    → e ≡ fieldAt 1 s (at + 4) → f ≡ fieldAt 1 s (at + 5) → g ≡ fieldAt 1 s (at + 6) → h ≡ fieldAt 1 s (at + 7)
-    → ((a * 72057594037927936 + b * 281474976710656) + (c * 1099511627776 + d * 4294967296)) + ((e * 16777216 + f * 65536) + (g * 256 + h)) ≡ fieldAt 8 s at
-field-eight s at l a b c d e f g h pa pb pc pd pe pf pg ph =
+pub field-eight : (s : List ℕ) (at : ℕ) → at + 8 ≤ length s
+    → ((fieldAt 1 s at * 72057594037927936 + fieldAt 1 s (at + 1) * 281474976710656)
+    + (fieldAt 1 s (at + 2) * 1099511627776 + fieldAt 1 s (at + 3) * 4294967296))
+    + ((fieldAt 1 s (at + 4) * 16777216 + fieldAt 1 s (at + 5) * 65536)
+    + (fieldAt 1 s (at + 6) * 256 + fieldAt 1 s (at + 7)))
+    ≡ fieldAt 8 s at
+field-eight s at l =
     omega (
       arith,
       field-parts 4 4 s at (at + 4) (omega arith) (omega arith),

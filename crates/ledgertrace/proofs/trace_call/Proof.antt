@@ -1,12 +1,29 @@
 -- `ledgertrace::trace_call` meets its contract: the list has one call less, or has ended.
 -- Assumes nothing.
-use mathlib.Core.Path.{sym}
-use lib.Seq.{length-take-le}
+use Prim.Native.Nat.{ℕ, _≤_}
+use mathlib.Core.List.{_++_}
 use native.Mathlib.Omega.{arith}
+use lib.ListN.{length, drop}
 use borrow.Author.Needs.{needs}
-use Rattle.console.proofs.LentLaws.{lent-back}
+use Rattle.console.proofs.LentLaws.{lent, lent-back}
 use Rattle.ledgertrace.proofs.trace_call.Statement.{statement}
 use Rattle.ledgertrace.proofs.trace_call.Tie as tie
+
+-- ---- the call's length is inside the space, before and after a piece was read into it
+abbrev at-space : tie.Then1 → tie.After-filled-buffer
+at-space c = c .before .before
+
+inside : (c : tie.Then1) → at-space c .before .read-length .result ≤ length (at-space c .filled-buffer .result)
+inside c = omega (arith, at-space c .filled-buffer .ensures)
+
+inside-read : (c : tie.After-space4)
+    → let space = at-space (c .before .before .before .before) in
+    let n = space .before .read-length .result in
+    n ≤ length (c .before .read-piece .last .0 ++ drop n (space .filled-buffer .result))
+inside-read c =
+    let at-length = c .before .before .before .before in
+    let space = at-space at-length .filled-buffer .result in
+    omega (arith, inside at-length, lent-back _ (c .before .read-piece .last .0) space (c .space4 .given) (inside at-length))
 
 read-byte-requires : tie.Need-read-byte-requires
 read-byte-requires c κs = search needs
@@ -14,8 +31,8 @@ read-byte-requires c κs = search needs
 read-length-requires : tie.Need-read-length-requires
 read-length-requires c κs = search needs
 
-large-buffer-requires : tie.Need-large-buffer-requires
-large-buffer-requires c κs = search needs
+filled-buffer-requires : tie.Need-filled-buffer-requires
+filled-buffer-requires c κs = search needs
 
 sub-trace : tie.Need-sub-trace
 sub-trace c = search needs
@@ -24,28 +41,28 @@ array-borrow-prefix-space : tie.Need-array-borrow-prefix-space
 array-borrow-prefix-space c = search needs
 
 slice-aggregate-trace-close : tie.Need-slice-aggregate-trace-close
-slice-aggregate-trace-close c = sym (length-take-le _ _ (omega (arith, c .before .before .before .before .large-buffer .ensures)))
+slice-aggregate-trace-close c = lent _ _ (inside (c .before .before))
 
 trace-close-requires : tie.Need-trace-close-requires
 trace-close-requires c κs = search needs
 
 returns : tie.Need-returns
-returns c = rw (c .before .trace-close .ensures) (record { handedBack = c .before .before .before .before .before .before .before .before .before .pre .0 .handedBack; counted = c .before .before .before .before .before .before .before .before .before .pre .0 .counted }, omega (arith, c .before .before .before .before .before .before .before .before .before .pre .1))
+returns c = search needs
 
 array-borrow-prefix-space-2 : tie.Need-array-borrow-prefix-space-2
 array-borrow-prefix-space-2 c = search needs
 
 slice-aggregate-read-piece : tie.Need-slice-aggregate-read-piece
-slice-aggregate-read-piece c = sym (length-take-le _ _ (omega (arith, c .before .before .before .before .large-buffer .ensures)))
+slice-aggregate-read-piece c = lent _ _ (inside (c .before .before))
 
 read-piece-requires : tie.Need-read-piece-requires
 read-piece-requires c κs = search needs
 
 array-share-prefix-space : tie.Need-array-share-prefix-space
-array-share-prefix-space c = omega (arith, c .before .before .before .before .before .before .before .before .large-buffer .ensures, lent-back (c .before .before .before .before .before .before .before .before .before .read-length .result) (c .before .before .before .read-piece .last .0) (c .before .before .before .before .before .before .before .before .large-buffer .result) (c .before .before .space4 .given) (omega (arith, c .before .before .before .before .before .before .before .before .large-buffer .ensures)))
+array-share-prefix-space c = inside-read (c .before .before)
 
 slice-aggregate-trace-open : tie.Need-slice-aggregate-trace-open
-slice-aggregate-trace-open c = sym (length-take-le _ _ (omega (arith, c .before .before .before .before .before .before .before .before .before .large-buffer .ensures, lent-back (c .before .before .before .before .before .before .before .before .before .before .read-length .result) (c .before .before .before .before .read-piece .last .0) (c .before .before .before .before .before .before .before .before .before .large-buffer .result) (c .before .before .before .space4 .given) (omega (arith, c .before .before .before .before .before .before .before .before .before .large-buffer .ensures)))))
+slice-aggregate-trace-open c = lent _ _ (array-share-prefix-space (c .before))
 
 trace-open-requires : tie.Need-trace-open-requires
 trace-open-requires c κs = search needs
@@ -54,10 +71,10 @@ returns-2 : tie.Need-returns-2
 returns-2 c = search needs
 
 array-share-prefix-space-2 : tie.Need-array-share-prefix-space-2
-array-share-prefix-space-2 c = omega (arith, c .before .before .before .before .before .before .before .before .before .large-buffer .ensures, lent-back (c .before .before .before .before .before .before .before .before .before .before .read-length .result) (c .before .before .before .before .read-piece .last .0) (c .before .before .before .before .before .before .before .before .before .large-buffer .result) (c .before .before .before .space4 .given) (omega (arith, c .before .before .before .before .before .before .before .before .before .large-buffer .ensures)))
+array-share-prefix-space-2 c = inside-read (c .before .before .before)
 
 slice-aggregate-trace-year : tie.Need-slice-aggregate-trace-year
-slice-aggregate-trace-year c = sym (length-take-le _ _ (omega (arith, c .before .before .before .before .before .before .before .before .before .before .large-buffer .ensures, lent-back (c .before .before .before .before .before .before .before .before .before .before .before .read-length .result) (c .before .before .before .before .before .read-piece .last .0) (c .before .before .before .before .before .before .before .before .before .before .large-buffer .result) (c .before .before .before .before .space4 .given) (omega (arith, c .before .before .before .before .before .before .before .before .before .before .large-buffer .ensures)))))
+slice-aggregate-trace-year c = lent _ _ (array-share-prefix-space-2 (c .before))
 
 trace-year-requires : tie.Need-trace-year-requires
 trace-year-requires c κs = search needs
@@ -77,7 +94,7 @@ trace-call-spec =
     (tie.spec
     read-byte-requires
     read-length-requires
-    large-buffer-requires
+    filled-buffer-requires
     sub-trace
     array-borrow-prefix-space
     slice-aggregate-trace-close

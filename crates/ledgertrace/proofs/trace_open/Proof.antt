@@ -15,8 +15,8 @@ enum-known-answer c = search needs
 slice-aggregate-print-call : tie.Need-slice-aggregate-print-call
 slice-aggregate-print-call c = search needs
 
-cast-print-call : tie.Need-cast-print-call
-cast-print-call c = search needs
+slice-aggregate-print-call-2 : tie.Need-slice-aggregate-print-call-2
+slice-aggregate-print-call-2 c = search needs
 
 print-call-requires : tie.Need-print-call-requires
 print-call-requires c κs = search needs
@@ -24,17 +24,26 @@ print-call-requires c κs = search needs
 enum-told : tie.Need-enum-told
 enum-told c = search needs
 
-slice-aggregate-print-call-2 : tie.Need-slice-aggregate-print-call-2
-slice-aggregate-print-call-2 c = search needs
+slice-aggregate-print-call-3 : tie.Need-slice-aggregate-print-call-3
+slice-aggregate-print-call-3 c = search needs
+
+slice-aggregate-print-call-4 : tie.Need-slice-aggregate-print-call-4
+slice-aggregate-print-call-4 c = search needs
 
 print-call-requires-2 : tie.Need-print-call-requires-2
 print-call-requires-2 c κs = search needs
 
 returns : tie.Need-returns
-returns c = (record { handedBack = c .before .before .before .before .before .before .«open» .ensures .1; counted = sym (opened-none _ _ (c .before .before .before .before .before .before .«open» .ensures .0)) }, refl)
+returns c =
+    let at-answer = c .before .before .before .before in
+    let opened = at-answer .before .before .before .«open» in
+    (record { handedBack = opened .ensures .1; counted = sym (opened-none _ _ (opened .ensures .0)) }, refl)
 
 returns-2 : tie.Need-returns-2
-returns-2 c = (record { handedBack = c .before .before .before .before .before .«open» .ensures .1; counted = sym (opened-none _ _ (c .before .before .before .before .before .«open» .ensures .0)) }, refl)
+returns-2 c =
+    let at-answer = c .before .before .before in
+    let opened = at-answer .before .before .before .«open» in
+    (record { handedBack = opened .ensures .1; counted = sym (opened-none _ _ (opened .ensures .0)) }, refl)
 
 pub trace-open-spec : {M : Type 1} → statement M
 trace-open-spec =
@@ -43,10 +52,11 @@ trace-open-spec =
     open-requires
     enum-known-answer
     slice-aggregate-print-call
-    cast-print-call
+    slice-aggregate-print-call-2
     print-call-requires
     enum-told
-    slice-aggregate-print-call-2
+    slice-aggregate-print-call-3
+    slice-aggregate-print-call-4
     print-call-requires-2
     returns
     returns-2)

@@ -33,11 +33,24 @@ same-length c = search needs
 
 returns : tie.Need-returns
 returns c =
-    let start = c .before .before .before .before .before .before .before .before .before .before .before .before .before .before .before .before .before in
-    let f = start .fits in
-    c .before .before .put-figure4 .ensures
-    ∙ rw (c .before .before .before .before .before .before .put-figure3 .ensures, c .before .before .before .before .before .before .before .before .before .before .put-figure2 .ensures, c .before .before .before .before .before .before .before .before .before .before .before .before .before .before .put-figure .ensures, toZ-ofZ (f .first), toZ-ofZ (f .second), toZ-ofZ (f .third), toZ-ofZ (f .fourth))
-    (stored-four (start .args .first) (start .args .second) (start .args .third) (start .args .fourth) (start .args .buffer .now) (start .args .at))
+    let at-fourth = c .before .before in
+    let at-third = at-fourth .before .before .before .before in
+    let at-second = at-third .before .before .before .before in
+    let at-first = at-second .before .before .before .before in
+    let at-start = at-first .before .before .before in
+    let fits = at-start .fits in
+    let given = at-start .args in
+    at-fourth .put-figure4 .ensures
+    ∙ rw (
+      at-third .put-figure3 .ensures,
+      at-second .put-figure2 .ensures,
+      at-first .put-figure .ensures,
+      toZ-ofZ (fits .first),
+      toZ-ofZ (fits .second),
+      toZ-ofZ (fits .third),
+      toZ-ofZ (fits .fourth),
+    )
+    (stored-four (given .first) (given .second) (given .third) (given .fourth) (given .buffer .now) (given .at))
 
 pub put-four-spec : {M : Type 1} → statement M
 put-four-spec =

@@ -25,19 +25,47 @@ add-put-four : tie.Need-add-put-four
 add-put-four c = search needs
 
 put-four-requires-2 : tie.Need-put-four-requires-2
-put-four-requires-2 c κs = omega (arith, c .before .before .before .before .before .before .before .put-four .kept .0, c .before .before .before .before .before .before .before .before .before .before .before .before .before .before .pre)
+put-four-requires-2 c κs =
+    let at-first = c .before .before .before .before .before .before .before in
+    let at-start = at-first .before .before .before .before .before .before .before in
+    omega (arith, at-first .put-four .kept .0, at-start .pre)
 
 same-length : tie.Need-same-length
 same-length c = search needs
 
 returns : tie.Need-returns
 returns c =
-    let start = c .before .before .before .before .before .before .before .before .before .before .before .before .before .before .before .before .before in
-    let t = c .before .before .before .before .before .before .before .before .before .before .before .before .before .before .struct-told .given in
-    let f = start .args .f in
-    c .before .before .put-four2 .ensures
-    ∙ rw (c .before .before .before .before .before .before .before .before .before .before .put-four .ensures, read (f .reference .0) (t .0 .1 .1 .0 .1), read (f .project .0) (t .1 .0 .1 .1 .0 .1), read (f .activity .0) (t .1 .1 .0 .1 .1 .0 .1), read (f .belt .0) (t .1 .1 .1 .0 .1 .1 .0 .1), read (f .«belt_reference» .0) (t .1 .1 .1 .1 .0 .1 .1 .0 .1), read (f .displaced .0) (t .1 .1 .1 .1 .1 .0 .1 .1 .0 .1), read (f .reduction .0) (t .1 .1 .1 .1 .1 .1 .0 .1 .1 .0 .1), read (f .credited .0) (t .1 .1 .1 .1 .1 .1 .1 .0 .1 .1 .0 .1))
-    (stored-more (f .reference .0 ∷ f .project .0 ∷ f .activity .0 ∷ f .belt .0 ∷ []) (f .«belt_reference» .0 ∷ f .displaced .0 ∷ f .reduction .0 ∷ f .credited .0 ∷ []) (start .args .buffer .now) (start .args .at) (start .args .at + 32) (omega arith))
+    let at-second = c .before .before in
+    let at-first = at-second .before .before .before .before .before .before .before .before in
+    let at-told = at-first .before .before .before .before in
+    let at-start = at-told .before .before .before in
+    let given = at-start .args in
+    let f = given .f in
+    -- that each figure fits, in the order of the fields
+    let t1 = at-told .struct-told .given in
+    let t2 = t1 .1 in
+    let t3 = t2 .1 in
+    let t4 = t3 .1 in
+    let t5 = t4 .1 in
+    let t6 = t5 .1 in
+    let t7 = t6 .1 in
+    let t8 = t7 .1 in
+    at-second .put-four2 .ensures
+    ∙ rw (
+      at-first .put-four .ensures,
+      read (f .reference .0) (t1 .0 .1 .1 .0 .1),
+      read (f .project .0) (t2 .0 .1 .1 .0 .1),
+      read (f .activity .0) (t3 .0 .1 .1 .0 .1),
+      read (f .belt .0) (t4 .0 .1 .1 .0 .1),
+      read (f .«belt_reference» .0) (t5 .0 .1 .1 .0 .1),
+      read (f .displaced .0) (t6 .0 .1 .1 .0 .1),
+      read (f .reduction .0) (t7 .0 .1 .1 .0 .1),
+      read (f .credited .0) (t8 .0 .1 .1 .0 .1),
+    )
+    (stored-more
+    (f .reference .0 ∷ f .project .0 ∷ f .activity .0 ∷ f .belt .0 ∷ [])
+    (f .«belt_reference» .0 ∷ f .displaced .0 ∷ f .reduction .0 ∷ f .credited .0 ∷ [])
+    (given .buffer .now) (given .at) (given .at + 32) (omega arith))
 
 pub put-year-spec : {M : Type 1} → statement M
 put-year-spec =

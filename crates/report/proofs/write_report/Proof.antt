@@ -16,10 +16,15 @@ use Rattle.report.proofs.write_report.Statement.{statement}
 use Rattle.report.proofs.write_report.Tie as tie
 
 abbrev Inv-loop : tie.InvT-loop
-Inv-loop k total project belt buffer₀ figures years y₀ buffer y = (y ≤ k) × (length buffer ≡ length buffer₀) × (buffer ≡ written (eights (take y figures)) buffer₀)
+Inv-loop k total project belt buffer₀ figures years y₀ buffer y =
+    (y ≤ k) × (length buffer ≡ length buffer₀) × (buffer ≡ written (eights (take y figures)) buffer₀)
 
 abbrev μ-loop : tie.MeasureT-loop
 μ-loop k total project belt buffer₀ figures years y₀ buffer y = k - y
+
+-- the total has 64 bits
+total-fits : (c : tie.Start Inv-loop μ-loop) → mag (c .args .total .0) < 2 ^ 63
+total-fits c = c .good .1 .1 .0 .1 .1 .0 .1
 
 loop-holds : tie.Need-loop-holds Inv-loop μ-loop
 unfolding eights
@@ -45,12 +50,15 @@ loop-less c = search needs
 
 loop-again : tie.Need-loop-again Inv-loop μ-loop
 loop-again c =
-    let l = c .before .before .before .before .before .before .loop in
-    let a = c .before .before .before .before .before .before .before .before .args in
-    let n : length (a .t1) ≡ 20 = search needs in (
+    let at-year = c .before .before in
+    let at-loop = at-year .before .before .before .before in
+    let now = at-loop .loop in
+    let given = at-loop .before .before .args in
+    let n : length (given .t1) ≡ 20 = search needs in (
       search needs,
       search needs,
-      c .before .before .put-year .ensures ∙ rw (l .inv .2) (written-year (a .t1) (l .y) _ (a .buffer .now) (omega arith) (omega arith)),
+      at-year .put-year .ensures
+          ∙ rw (now .inv .2) (written-year (given .t1) (now .y) _ (given .buffer .now) (omega arith) (omega arith)),
     )
 
 mul-at : tie.Need-mul-at Inv-loop μ-loop
@@ -61,9 +69,9 @@ tonnes-requires c κs = search needs
 
 cast-tonnes : tie.Need-cast-tonnes Inv-loop μ-loop
 cast-tonnes c =
-    let start = c .before .before .before .before in
-    let total-fits : mag (start .args .total .0) < 2 ^ 63 = start .good .1 .1 .0 .1 .1 .0 .1 in
-    rw (c .tonnes .ensures) (sfits-of (tonnes-fit (start .args .total .0) total-fits))
+    let at-start = c .before .before .before .before in
+    let total = at-start .args .total .0 in
+    rw (c .tonnes .ensures) (sfits-of (tonnes-fit total (total-fits at-start)))
 
 cast-put-four : tie.Need-cast-put-four Inv-loop μ-loop
 cast-put-four c = search needs
@@ -75,18 +83,35 @@ put-four-requires : tie.Need-put-four-requires Inv-loop μ-loop
 put-four-requires c κs = omega arith
 
 same-length : tie.Need-same-length Inv-loop μ-loop
-same-length c = c .before .before .put-four .kept .0 ∙ c .before .before .before .before .before .before .before .before .before .loop .inv .1
+same-length c =
+    let at-closing = c .before .before in
+    let at-loop = at-closing .before .before .before .before .before .before .before in
+    at-closing .put-four .kept .0 ∙ at-loop .loop .inv .1
 
 returns : tie.Need-returns Inv-loop μ-loop
 returns c =
-    let start = c .before .before .before .before .before .before .before .before .before .before .before in
-    let l = c .before .before .before .before .before .before .before .before .before .loop in
-    let a = start .args in
-    let n : length (a .t1) ≡ 20 = search needs in
-    let total-fits : mag (a .total .0) < 2 ^ 63 = start .good .1 .1 .0 .1 .1 .0 .1 in
-    let done : l .y ≡ a .k = omega arith in
-    c .before .before .put-four .ensures
-    ∙ rw (l .inv .2, done, toZ-ofZ (sfits-of total-fits), c .before .before .before .before .before .before .before .tonnes .ensures, toZ-pos w64 (tonnes-fit (a .total .0) total-fits), toZ-pos w64 (start .pre .1 .0), toZ-pos w64 (start .pre .1 .1), ← written-closing (a .k) (a .t1) (a .total .0) (a .project .0) (a .belt .0) (a .buffer .now) (omega arith) (start .pre .0 .1))
+    let at-closing = c .before .before in
+    let at-tonnes = at-closing .before .before .before .before .before in
+    let at-loop = at-tonnes .before .before in
+    let at-start = at-loop .before .before in
+    let now = at-loop .loop in
+    let given = at-start .args in
+    let total = given .total .0 in
+    let project = given .project .0 in
+    let belt = given .belt .0 in
+    let n : length (given .t1) ≡ 20 = search needs in
+    let done : now .y ≡ given .k = omega arith in
+    at-closing .put-four .ensures
+    ∙ rw (
+      now .inv .2,
+      done,
+      toZ-ofZ (sfits-of (total-fits at-start)),
+      at-tonnes .tonnes .ensures,
+      toZ-pos w64 (tonnes-fit total (total-fits at-start)),
+      toZ-pos w64 (at-start .pre .1 .0),
+      toZ-pos w64 (at-start .pre .1 .1),
+      ← written-closing (given .k) (given .t1) total project belt (given .buffer .now) (omega arith) (at-start .pre .0 .1),
+    )
 
 pub write-report-spec : {M : Type 1} → statement M
 write-report-spec =

@@ -10,15 +10,14 @@ use Rattle.sheet.proofs.put_figure.Statement.{statement}
 use Rattle.sheet.proofs.put_figure.Tie as tie
 
 put-decimal-requires : tie.Need-put-decimal-requires
-put-decimal-requires c κs = omega (arith, length-decimal 18 (c .before .before .before .args .bits) (omega arith))
-
-same-length : tie.Need-same-length
-same-length c = search needs
+put-decimal-requires c κs =
+    let n = c .before .before .args .bits in
+    omega (arith, length-decimal 18 n (omega arith))
 
 returns : tie.Need-returns
 returns c =
-    let n = c .before .before .before .before .before .before .args .bits in
-    rw (figure-above n (omega arith)) (c .before .before .put-decimal .ensures)
+    let n = c .before .before .before .args .bits in
+    rw (figure-above n (omega arith)) (c .put-decimal .ensures)
 
 put-byte-requires : tie.Need-put-byte-requires
 put-byte-requires c κs = search needs
@@ -31,27 +30,24 @@ add-put-decimal c = search needs
 
 put-decimal-requires-2 : tie.Need-put-decimal-requires-2
 put-decimal-requires-2 c κs =
-    let n = c .before .before .before .before .before .before .before .args .bits in
+    let at-minus = c .before in
+    let n = at-minus .before .before .before .args .bits in
     omega (arith, length-decimal 18 (18446744073709551615 - n + 1) (omega arith))
-
-same-length-2 : tie.Need-same-length-2
-same-length-2 c = search needs
 
 returns-2 : tie.Need-returns-2
 returns-2 c =
-    let n = c .before .before .before .before .before .before .before .before .before .before .args .bits in
-    rw (figure-below n (omega arith)) (put-then (c .before .before .before .before .before .before .put-byte .ensures) (c .before .before .put-decimal2 .ensures))
+    let at-minus = c .before .before in
+    let n = at-minus .before .before .before .args .bits in
+    rw (figure-below n (omega arith)) (put-then (at-minus .put-byte .ensures) (c .put-decimal2 .ensures))
 
 pub put-figure-spec : {M : Type 1} → statement M
 put-figure-spec =
     tie.close
     (tie.spec
     put-decimal-requires
-    same-length
     returns
     put-byte-requires
     sub-put-decimal
     add-put-decimal
     put-decimal-requires-2
-    same-length-2
     returns-2)

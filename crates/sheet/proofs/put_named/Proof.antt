@@ -2,6 +2,7 @@
 -- Assumes nothing.
 use native.Mathlib.Omega.{arith}
 use borrow.Author.Needs.{needs}
+use Rattle.sheet.specs.Sheet.{named}
 use Rattle.sheet.proofs.PutLaws.{put-then}
 use Rattle.sheet.proofs.put_named.Statement.{statement}
 use Rattle.sheet.proofs.put_named.Tie as tie
@@ -12,11 +13,11 @@ put-text-requires c κs = search needs
 put-spaced-requires : tie.Need-put-spaced-requires
 put-spaced-requires c κs = (omega arith, omega arith)
 
-same-length : tie.Need-same-length
-same-length c = search needs
-
 returns : tie.Need-returns
-returns c = put-then (c .before .before .before .before .before .before .put-text .ensures) (c .before .before .put-spaced .ensures)
+unfolding named
+returns c =
+    let at-word = c .before .before in
+    put-then (at-word .put-text .ensures) (c .put-spaced .ensures)
 
 pub put-named-spec : {M : Type 1} → statement M
-put-named-spec = tie.close (tie.spec put-text-requires put-spaced-requires same-length returns)
+put-named-spec = tie.close (tie.spec put-text-requires put-spaced-requires returns)

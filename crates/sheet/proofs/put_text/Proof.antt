@@ -28,7 +28,9 @@ add-out : tie.Need-add-out Inv-loop μ-loop
 add-out c = search needs
 
 slice-write-out : tie.Need-slice-write-out Inv-loop μ-loop
-slice-write-out c = omega (arith, rest-length (c .before .before .loop .inv .1))
+slice-write-out c =
+    let now = c .before .before .loop in
+    omega (arith, rest-length (now .inv .1))
 
 add-i : tie.Need-add-i Inv-loop μ-loop
 add-i c = search needs
@@ -38,9 +40,9 @@ loop-less c = search needs
 
 loop-again : tie.Need-loop-again Inv-loop μ-loop
 loop-again c =
-    let text = c .before .before .before .args .text .now in
-    let i = c .before .before .loop .i in
-    (omega arith, copied-more text i (omega arith) (c .before .before .loop .inv .1))
+    let at-loop = c .before .before in
+    let now = at-loop .loop in
+    (omega arith, copied-more (at-loop .before .args .text .now) (now .i) (omega arith) (now .inv .1))
 
 add-result : tie.Need-add-result Inv-loop μ-loop
 add-result c = search needs
@@ -50,9 +52,9 @@ same-length c = rest-length (c .before .loop .inv .1)
 
 returns : tie.Need-returns Inv-loop μ-loop
 returns c =
-    let text = c .before .before .args .text .now in
-    let i = c .before .loop .i in
-    copied-all text i (omega arith) (c .before .loop .inv .1)
+    let at-loop = c .before in
+    let now = at-loop .loop in
+    copied-all (at-loop .before .args .text .now) (now .i) (omega arith) (now .inv .1)
 
 pub put-text-spec : {M : Type 1} → statement M
 put-text-spec =

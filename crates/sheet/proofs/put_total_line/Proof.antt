@@ -3,7 +3,7 @@
 use Prim.Native.Nat.{_+_}
 use native.Mathlib.Omega.{arith}
 use borrow.Author.Needs.{needs}
-use Rattle.sheet.specs.Sheet.{totalLine}
+use Rattle.sheet.specs.Sheet.{named, totalLine}
 use Rattle.sheet.proofs.SheetLaws.{length-spaced}
 use Rattle.sheet.proofs.PutLaws.{put-then}
 use Rattle.sheet.proofs.put_total_line.Statement.{statement}
@@ -13,7 +13,7 @@ slice-aggregate-put-named : tie.Need-slice-aggregate-put-named
 slice-aggregate-put-named c = search needs
 
 put-named-requires : tie.Need-put-named-requires
-put-named-requires c κs = (omega arith, omega arith)
+put-named-requires c κs = search needs
 
 slice-aggregate-put-named-2 : tie.Need-slice-aggregate-put-named-2
 slice-aggregate-put-named-2 c = search needs
@@ -22,7 +22,11 @@ add-put-named : tie.Need-add-put-named
 add-put-named c = search needs
 
 put-named-requires-2 : tie.Need-put-named-requires-2
-put-named-requires-2 c κs = (omega arith, omega (arith, length-spaced 1 (c .before .before .before .before .before .before .before .before .before .args .result .now) (c .before .before .before .before .before .before .before .before .before .args .from)))
+unfolding named
+put-named-requires-2 c κs =
+    let at-total = c .before .before .before in
+    let given = at-total .before .before .before .before .args in
+    (omega arith, omega (arith, length-spaced 1 (given .result .now) (given .from)))
 
 slice-aggregate-put-named-3 : tie.Need-slice-aggregate-put-named-3
 slice-aggregate-put-named-3 c = search needs
@@ -31,21 +35,35 @@ add-put-named-2 : tie.Need-add-put-named-2
 add-put-named-2 c = search needs
 
 put-named-requires-3 : tie.Need-put-named-requires-3
+unfolding named
 put-named-requires-3 c κs =
-    let given = c .before .before .before .before .before .before .before .before .before .before .before .before .before .before .args in
-    (omega arith, omega (arith, length-spaced 1 (given .result .now) (given .from), length-spaced 1 (given .result .now) (given .from + 8)))
+    let at-tonnes = c .before .before .before in
+    let at-total = at-tonnes .before .before .before .before in
+    let given = at-total .before .before .before .before .args in
+    let total = length-spaced 1 (given .result .now) (given .from) in
+    let tonnes = length-spaced 1 (given .result .now) (given .from + 8) in
+    (omega arith, omega arith)
 
 put-byte-requires : tie.Need-put-byte-requires
+unfolding named
 put-byte-requires c κs =
-    let given = c .before .before .before .before .before .before .before .before .before .before .before .before .before .before .before .before .before .before .args in
-    omega (arith, length-spaced 1 (given .result .now) (given .from), length-spaced 1 (given .result .now) (given .from + 8), length-spaced 2 (given .result .now) (given .from + 16))
-
-same-length : tie.Need-same-length
-same-length c = search needs
+    let at-balances = c .before in
+    let at-tonnes = at-balances .before .before .before .before in
+    let at-total = at-tonnes .before .before .before .before in
+    let given = at-total .before .before .before .before .args in
+    let total = length-spaced 1 (given .result .now) (given .from) in
+    let tonnes = length-spaced 1 (given .result .now) (given .from + 8) in
+    let balances = length-spaced 2 (given .result .now) (given .from + 16) in
+    omega arith
 
 returns : tie.Need-returns
 unfolding totalLine
-returns c = put-then (c .before .before .before .before .before .before .before .before .before .before .before .before .before .before .before .before .put-named .ensures) (put-then (c .before .before .before .before .before .before .before .before .before .before .before .put-named2 .ensures) (put-then (c .before .before .before .before .before .before .put-named3 .ensures) (c .before .before .put-byte .ensures)))
+returns c =
+    let at-balances = c .before .before in
+    let at-tonnes = at-balances .before .before .before .before in
+    let at-total = at-tonnes .before .before .before .before in
+    put-then (at-total .put-named .ensures)
+    (put-then (at-tonnes .put-named2 .ensures) (put-then (at-balances .put-named3 .ensures) (c .put-byte .ensures)))
 
 pub put-total-line-spec : {M : Type 1} → statement M
 put-total-line-spec =
@@ -60,5 +78,4 @@ put-total-line-spec =
     add-put-named-2
     put-named-requires-3
     put-byte-requires
-    same-length
     returns)

@@ -10,24 +10,27 @@ use Rattle.sheet.proofs.put_year_line.Statement.{statement}
 use Rattle.sheet.proofs.put_year_line.Tie as tie
 
 put-decimal-requires : tie.Need-put-decimal-requires
-put-decimal-requires c κs = omega (arith, length-decimal 19 (c .before .before .before .args .year) (omega arith))
+put-decimal-requires c κs = omega (arith, length-decimal 19 (c .before .args .year) (omega arith))
 
 put-spaced-requires : tie.Need-put-spaced-requires
-put-spaced-requires c κs = (omega arith, omega (arith, length-decimal 19 (c .before .before .before .before .before .before .before .args .year) (omega arith)))
+put-spaced-requires c κs =
+    let at-year = c .before .before in
+    let given = at-year .before .before .args in
+    (omega arith, omega (arith, length-decimal 19 (given .year) (omega arith)))
 
 put-byte-requires : tie.Need-put-byte-requires
 put-byte-requires c κs =
-    let given = c .before .before .before .before .before .before .before .before .before .before .before .args in
+    let at-figures = c .before in
+    let at-year = at-figures .before .before .before in
+    let given = at-year .before .before .args in
     omega (arith, length-decimal 19 (given .year) (omega arith), length-spaced 8 (given .result .now) (given .from))
-
-same-length : tie.Need-same-length
-same-length c = search needs
 
 returns : tie.Need-returns
 unfolding yearLine
-returns c = put-then (c .before .before .before .before .before .before .before .before .before .before .put-decimal .ensures) (put-then (c .before .before .before .before .before .before .put-spaced .ensures) (c .before .before .put-byte .ensures))
+returns c =
+    let at-figures = c .before .before in
+    let at-year = at-figures .before .before .before in
+    put-then (at-year .put-decimal .ensures) (put-then (at-figures .put-spaced .ensures) (c .put-byte .ensures))
 
 pub put-year-line-spec : {M : Type 1} → statement M
-put-year-line-spec =
-    tie.close
-    (tie.spec put-decimal-requires put-spaced-requires put-byte-requires same-length returns)
+put-year-line-spec = tie.close (tie.spec put-decimal-requires put-spaced-requires put-byte-requires returns)

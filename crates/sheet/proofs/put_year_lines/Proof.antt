@@ -2,31 +2,34 @@
 -- Assumes nothing.
 use mathlib.Core.Path.{_≡_}
 use mathlib.Core.List.{_++_}
-use Prim.Native.Nat.{_+_, _-_, _*_, _≤_, _<_}
+use Prim.Native.Nat.{_+_, _-_, _*_, _^_, _≤_, _<_}
 use native.Mathlib.Omega.{arith}
-use lib.ListN.{length}
 use borrow.Author.Needs.{needs}
 use Rattle.sheet.specs.Sheet.{yearLine, yearLines}
-use Rattle.sheet.proofs.PutLaws.{Rest, rest-all, rest-less, rest-none, rest-length}
+use Rattle.sheet.proofs.PutLaws.{Rest, rest-all, rest-less, rest-none}
 use Rattle.sheet.proofs.SheetLaws.{lines-none, lines-more, length-line}
 use Rattle.sheet.proofs.put_year_lines.Statement.{statement}
 use Rattle.sheet.proofs.put_year_lines.Tie as tie
 
 abbrev Inv-loop : tie.InvT-loop
-Inv-loop out₀ at n first result left₀ place₀ year₀ source₀ out left place year source = (source + 64 * left ≤ length result) × (year + left < 65536) × (place + 189 * left ≤ length out) × Rest out₀ at (yearLines n first result 0) out place (yearLines left year result source)
+Inv-loop out₀ at n first result left₀ place₀ year₀ source₀ out left place year source =
+    (source + 64 * left ≤ 1280) × (year + left < 2 ^ 64) × (place + 189 * left ≤ 4096)
+    × Rest out₀ at (yearLines n first result 0) out place (yearLines left year result source)
 
 abbrev μ-loop : tie.MeasureT-loop
 μ-loop out₀ at n first result left₀ place₀ year₀ source₀ out left place year source = left
 
 -- the lines left, the first apart
 next : (c : tie.In-loop Inv-loop μ-loop)
-    → let given = c .before .before .before .before .args in
-    let at = c .before .loop in
-    Rest (given .out .now) (given .at) (yearLines (given .n) (given .first) (given .result .now) 0) (at .out) (at .place)
-    (yearLine (at .year) (given .result .now) (at .source) ++ yearLines (at .left - 1) (at .year + 1) (given .result .now) (at .source + 64))
+    → let given = c .before .before .args in
+    let now = c .before .loop in
+    let result = given .result .now in
+    Rest (given .out .now) (given .at) (yearLines (given .n) (given .first) result 0) (now .out) (now .place)
+    (yearLine (now .year) result (now .source) ++ yearLines (now .left - 1) (now .year + 1) result (now .source + 64))
 next c =
-    let result = c .before .before .before .before .args .result .now in
-    rw (lines-more (c .before .loop .left) (c .before .loop .year) result (c .before .loop .source) (omega arith)) at (c .before .loop .inv .3)
+    let result = c .before .before .args .result .now in
+    let now = c .before .loop in
+    rw (lines-more (now .left) (now .year) result (now .source) (omega arith)) at (now .inv .3)
 
 loop-holds : tie.Need-loop-holds Inv-loop μ-loop
 loop-holds c = (omega arith, omega arith, omega arith, rest-all _ _ _)
@@ -48,18 +51,17 @@ loop-less c = search needs
 
 loop-again : tie.Need-loop-again Inv-loop μ-loop
 loop-again c =
-    let now = c .before .before .before .before .before .loop in
-    let line = c .before .before .put-year-line .ensures in
-    let room = length-line (now .year) (c .before .before .before .before .before .before .before .before .args .result .now) (now .source) (omega arith) in
-    (omega arith, omega arith, omega arith, rest-less (next (c .before .before .before .before)) line)
-
-same-length : tie.Need-same-length Inv-loop μ-loop
-same-length c = rest-length (c .before .loop .inv .3)
+    let in-loop = c .before .before in
+    let now = in-loop .before .loop in
+    let result = in-loop .before .before .args .result .now in
+    let room = length-line (now .year) result (now .source) (omega arith) in
+    (omega arith, omega arith, omega arith, rest-less (next in-loop) (c .put-year-line .ensures))
 
 returns : tie.Need-returns Inv-loop μ-loop
 returns c =
-    let none : c .before .loop .left ≡ 0 = omega arith in
-    rest-none (rw (none, lines-none) at (c .before .loop .inv .3))
+    let now = c .before .loop in
+    let none : now .left ≡ 0 = omega arith in
+    rest-none (rw (none, lines-none) at (now .inv .3))
 
 pub put-year-lines-spec : {M : Type 1} → statement M
 put-year-lines-spec =
@@ -74,5 +76,4 @@ put-year-lines-spec =
     sub-left
     loop-less
     loop-again
-    same-length
     returns)

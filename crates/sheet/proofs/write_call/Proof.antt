@@ -1,6 +1,8 @@
 -- `sheet::write_call` meets its contract: the word, the number, the figures and a line feed, one after the other.
 -- Assumes nothing.
+use Prim.Native.Nat.{_/_}
 use native.Mathlib.Omega.{arith}
+use lib.ListN.{length}
 use borrow.Author.Needs.{needs}
 use Rattle.sheet.specs.CallLine.{callLine}
 use Rattle.sheet.proofs.DecimalLaws.{length-decimal}
@@ -16,25 +18,47 @@ put-byte-requires : tie.Need-put-byte-requires
 put-byte-requires c κs = search needs
 
 put-decimal-requires : tie.Need-put-decimal-requires
-put-decimal-requires c κs = omega (arith, length-decimal 2 (c .before .before .before .before .before .before .before .before .before .before .before .before .args .n) (omega arith))
+put-decimal-requires c κs =
+    let at-space = c .before in
+    let at-word = at-space .before .before in
+    let n = at-word .before .before .before .before .args .n in
+    omega (arith, length-decimal 2 n (omega arith))
 
 put-spaced-requires : tie.Need-put-spaced-requires
-put-spaced-requires c κs = (omega arith, omega (arith, length-decimal 2 (c .before .before .before .before .before .before .before .before .before .before .before .before .before .before .before .before .args .n) (omega arith)))
+put-spaced-requires c κs =
+    let at-number = c .before in
+    let at-space = at-number .before .before in
+    let at-word = at-space .before .before in
+    let n = at-word .before .before .before .before .args .n in
+    (omega arith, omega (arith, length-decimal 2 n (omega arith)))
 
 put-byte-requires-2 : tie.Need-put-byte-requires-2
 put-byte-requires-2 c κs =
-    let given = c .before .before .before .before .before .before .before .before .before .before .before .before .before .before .before .before .before .before .before .before .args in
-    omega (arith, length-decimal 2 (given .n) (omega arith), length-spaced (given .k) (given .result .now) 0)
-
-same-length : tie.Need-same-length
-same-length c = search needs
+    let at-figures = c .before in
+    let at-number = at-figures .before .before in
+    let at-space = at-number .before .before in
+    let at-word = at-space .before .before in
+    let at-start = at-word .before .before .before .before in
+    let given = at-start .args in
+    let figures = given .figures .now in
+    let byte = at-start .fits .n .fits in
+    omega (arith, length-decimal 2 (given .n) (omega arith), length-spaced (length figures / 8) figures 0)
 
 returns : tie.Need-returns
 unfolding callLine
 returns c =
-    let given = c .before .before .before .before .before .before .before .before .before .before .before .before .before .before .before .before .before .before .before .before .before .before .before .args in
-    let short = length-call (given .word .now) (given .n) (given .k) (given .result .now) (omega arith) (omega arith) (omega arith) in
-    put-start {s = callLine (given .word .now) (given .n) (given .k) (given .result .now)} (omega arith) (put-then (c .before .before .before .before .before .before .before .before .before .before .before .before .before .before .before .before .before .before .put-text .ensures) (put-then (c .before .before .before .before .before .before .before .before .before .before .before .before .before .before .put-byte .ensures) (put-then (c .before .before .before .before .before .before .before .before .before .before .put-decimal .ensures) (put-then (c .before .before .before .before .before .before .put-spaced .ensures) (c .before .before .put-byte2 .ensures)))))
+    let at-figures = c .before .before in
+    let at-number = at-figures .before .before in
+    let at-space = at-number .before .before in
+    let at-word = at-space .before .before in
+    let at-start = at-word .before .before .before .before in
+    let given = at-start .args in
+    let line = callLine (given .word .now) (given .n) (given .figures .now) in
+    let short = length-call (given .word .now) (given .n) (given .figures .now) (at-start .pre .0) (at-start .fits .n .fits) (at-start .pre .1) in
+    put-start {s = line} (omega arith)
+    (put-then (at-word .put-text .ensures)
+    (put-then (at-space .put-byte .ensures)
+    (put-then (at-number .put-decimal .ensures) (put-then (at-figures .put-spaced .ensures) (c .put-byte2 .ensures)))))
 
 pub write-call-spec : {M : Type 1} → statement M
 write-call-spec =
@@ -45,5 +69,4 @@ write-call-spec =
     put-decimal-requires
     put-spaced-requires
     put-byte-requires-2
-    same-length
     returns)

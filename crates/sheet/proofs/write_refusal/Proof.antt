@@ -16,20 +16,28 @@ put-text-requires : tie.Need-put-text-requires
 put-text-requires c κs = search needs
 
 put-decimal-requires : tie.Need-put-decimal-requires
-put-decimal-requires c κs = omega (arith, length-decimal 2 (c .before .before .before .before .before .before .before .args .n) (omega arith))
+put-decimal-requires c κs =
+    let at-word = c .before in
+    let n = at-word .before .before .before .args .n in
+    omega (arith, length-decimal 2 n (omega arith))
 
 put-byte-requires : tie.Need-put-byte-requires
-put-byte-requires c κs = omega (arith, length-decimal 2 (c .before .before .before .before .before .before .before .before .before .before .before .args .n) (omega arith))
-
-same-length : tie.Need-same-length
-same-length c = search needs
+put-byte-requires c κs =
+    let at-number = c .before in
+    let at-word = at-number .before .before in
+    let n = at-word .before .before .before .args .n in
+    omega (arith, length-decimal 2 n (omega arith))
 
 returns : tie.Need-returns
 unfolding refusalOf
 returns c =
-    let n = c .before .before .before .before .before .before .before .before .before .before .before .before .before .before .args .n in
+    let at-number = c .before .before in
+    let at-word = at-number .before .before in
+    let at-start = at-word .before .before .before in
+    let n = at-start .args .n in
     let short = length-refusal n (omega arith) in
-    put-start {s = refusalOf n} (omega arith) (put-then (c .before .before .before .before .before .before .before .before .before .before .put-text .ensures) (put-then (c .before .before .before .before .before .before .put-decimal .ensures) (c .before .before .put-byte .ensures)))
+    put-start {s = refusalOf n} (omega arith)
+    (put-then (at-word .put-text .ensures) (put-then (at-number .put-decimal .ensures) (c .put-byte .ensures)))
 
 pub write-refusal-spec : {M : Type 1} → statement M
 write-refusal-spec =
@@ -39,5 +47,4 @@ write-refusal-spec =
     put-text-requires
     put-decimal-requires
     put-byte-requires
-    same-length
     returns)

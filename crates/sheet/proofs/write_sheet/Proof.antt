@@ -15,25 +15,30 @@ put-text-requires : tie.Need-put-text-requires
 put-text-requires c κs = search needs
 
 put-year-lines-requires : tie.Need-put-year-lines-requires
-put-year-lines-requires c κs = (omega arith, omega arith, omega arith)
+put-year-lines-requires c κs = search needs
 
 mul-put-total-line : tie.Need-mul-put-total-line
 mul-put-total-line c = search needs
 
 put-total-line-requires : tie.Need-put-total-line-requires
 put-total-line-requires c κs =
-    let given = c .before .before .before .before .before .before .before .before .before .before .before .before .args in
-    (omega arith, omega (arith, length-lines (given .n) (given .first) (given .result .now) 0 (omega arith)))
-
-same-length : tie.Need-same-length
-same-length c = search needs
+    let at-years = c .before in
+    let at-header = at-years .before .before in
+    let given = at-header .before .before .before .args in
+    let lines = length-lines (given .n) (given .first) (given .result .now) 0 (omega arith) in
+    (omega arith, omega arith)
 
 returns : tie.Need-returns
 unfolding sheetOf header
 returns c =
-    let given = c .before .before .before .before .before .before .before .before .before .before .before .before .before .before .before .args in
-    let short = length-sheet (given .first) (given .n) (given .result .now) (omega arith) (omega arith) in
-    put-start {s = sheetOf (given .first) (given .n) (given .result .now)} (omega arith) (put-then (c .before .before .before .before .before .before .before .before .before .before .put-text .ensures) (put-then (c .before .before .before .before .before .before .put-year-lines .ensures) (c .before .before .put-total-line .ensures)))
+    let at-years = c .before .before in
+    let at-header = at-years .before .before in
+    let at-start = at-header .before .before .before in
+    let given = at-start .args in
+    let sheet = sheetOf (given .first) (given .n) (given .result .now) in
+    let short = length-sheet (given .first) (given .n) (given .result .now) (at-start .fits .first .fits) (at-start .pre) in
+    put-start {s = sheet} (omega arith)
+    (put-then (at-header .put-text .ensures) (put-then (at-years .put-year-lines .ensures) (c .put-total-line .ensures)))
 
 pub write-sheet-spec : {M : Type 1} → statement M
 write-sheet-spec =
@@ -44,5 +49,4 @@ write-sheet-spec =
     put-year-lines-requires
     mul-put-total-line
     put-total-line-requires
-    same-length
     returns)

@@ -4,58 +4,66 @@ use Prim.Native.Nat.{ℕ, _≤_}
 use mathlib.Core.Path.{_≡_, _∙_, sym}
 use mathlib.Core.List.{List, _++_}
 use native.Mathlib.Omega.{arith}
-use lib.ListN.{length, take, drop, replicate, length-replicate}
-use lib.Seq.{length-take-le}
+use lib.ListN.{length, drop, replicate, length-replicate}
 use borrow.Author.Needs.{needs}
-use Rattle.console.proofs.LentLaws.{lent-back}
+use Rattle.console.proofs.LentLaws.{lent, lent-back}
 use Rattle.vectors.proofs.print_vector.Statement.{statement}
 use Rattle.vectors.proofs.print_vector.Tie as tie
+
+abbrev buffer : List ℕ
+buffer = replicate 1312 165
+
+room-in : (room : ℕ) → room ≤ 1312 → room ≤ length buffer
+room-in room h = omega (arith, length-replicate {A = ℕ} 1312 165)
+
+-- the buffer is lent in part, and comes back whole
+whole : (c : tie.After-result2)
+    → let room = c .before .before .before .before .before .args .room in
+    length (c .before .reckon .last .1 .0 ++ drop room buffer) ≡ 1312
+whole c =
+    let at-start = c .before .before .before .before .before in
+    lent-back _ (c .before .reckon .last .1 .0) buffer (c .result2 .given) (room-in _ (at-start .pre .1)) ∙ length-replicate {A = ℕ} 1312 165
 
 array-borrow-prefix-result : tie.Need-array-borrow-prefix-result
 array-borrow-prefix-result c = search needs
 
-abbrev fill : List ℕ
-fill = replicate 1312 165
-
--- the buffer is lent in part, and comes back whole
-lent : (room : ℕ) → room ≤ 1312 → room ≤ length fill
-lent room h = omega (arith, length-replicate {A = ℕ} 1312 165)
-
-whole : (room : ℕ) (piece : List ℕ) → room ≤ 1312 → length piece ≡ length (take room fill) → length (piece ++ drop room fill) ≡ 1312
-whole room piece h e = lent-back room piece fill e (lent room h) ∙ length-replicate {A = ℕ} 1312 165
-
 slice-aggregate-reckon : tie.Need-slice-aggregate-reckon
-slice-aggregate-reckon c = sym (length-take-le _ _ (lent _ (c .before .before .before .pre .1)))
+slice-aggregate-reckon c =
+    let at-start = c .before .before .before in
+    lent _ _ (room-in _ (at-start .pre .1))
 
 reckon-requires : tie.Need-reckon-requires
 reckon-requires c κs = search needs
 
+array-share-prefix-result : tie.Need-array-share-prefix-result
+array-share-prefix-result c =
+    let at-start = c .before .before .before .before .before .before in
+    omega (arith, whole (c .before), at-start .pre .1)
+
 slice-aggregate-print-call : tie.Need-slice-aggregate-print-call
-slice-aggregate-print-call c = sym (whole (c .before .before .before .before .before .before .before .args .room) (c .before .before .before .reckon .last .1 .0) (c .before .before .before .before .before .before .before .pre .1) (c .before .before .result2 .given))
+slice-aggregate-print-call c = lent _ _ (array-share-prefix-result (c .before))
 
 print-call-requires : tie.Need-print-call-requires
-print-call-requires c κs = (c .before .before .before .before .before .before .before .pre .0, omega arith, omega (arith, c .before .before .before .before .before .before .before .pre .1), omega (arith, c .before .before .before .before .before .before .before .pre .1, whole (c .before .before .before .before .before .before .before .args .room) (c .before .before .before .reckon .last .1 .0) (c .before .before .before .before .before .before .before .pre .1) (c .before .before .result2 .given)))
+print-call-requires c κs =
+    let at-start = c .before .before .before .before .before .before .before in
+    (at-start .pre .0, omega (arith, slice-aggregate-print-call c, at-start .pre .1))
 
 returns : tie.Need-returns
 returns c = search needs
 
-cast-print-call : tie.Need-cast-print-call
-cast-print-call c = search needs
-
 slice-aggregate-print-call-2 : tie.Need-slice-aggregate-print-call-2
-slice-aggregate-print-call-2 c = sym (whole (c .before .before .before .before .before .before .before .args .room) (c .before .before .before .reckon .last .1 .0) (c .before .before .before .before .before .before .before .pre .1) (c .before .before .result2 .given))
+slice-aggregate-print-call-2 c = search needs
 
 print-call-requires-2 : tie.Need-print-call-requires-2
 print-call-requires-2 c κs = search needs
 
-slice-aggregate-same : tie.Need-slice-aggregate-same
-slice-aggregate-same c = sym (whole (c .before .before .before .before .before .before .before .before .before .args .room) (c .before .before .before .before .before .reckon .last .1 .0) (c .before .before .before .before .before .before .before .before .before .pre .1) (c .before .before .before .before .result2 .given))
+slice-aggregate-is-filled : tie.Need-slice-aggregate-is-filled
+slice-aggregate-is-filled c =
+    let at-refused = c .before .before .before in
+    sym (whole (at-refused .before))
 
-slice-aggregate-same-2 : tie.Need-slice-aggregate-same-2
-slice-aggregate-same-2 c = search needs
-
-same-requires : tie.Need-same-requires
-same-requires c κs = search needs
+is-filled-requires : tie.Need-is-filled-requires
+is-filled-requires c κs = search needs
 
 slice-aggregate-write-all : tie.Need-slice-aggregate-write-all
 slice-aggregate-write-all c = search needs
@@ -76,15 +84,14 @@ print-vector-spec =
     array-borrow-prefix-result
     slice-aggregate-reckon
     reckon-requires
+    array-share-prefix-result
     slice-aggregate-print-call
     print-call-requires
     returns
-    cast-print-call
     slice-aggregate-print-call-2
     print-call-requires-2
-    slice-aggregate-same
-    slice-aggregate-same-2
-    same-requires
+    slice-aggregate-is-filled
+    is-filled-requires
     slice-aggregate-write-all
     write-all-requires
     returns-2

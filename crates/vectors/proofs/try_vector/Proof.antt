@@ -1,15 +1,47 @@
 -- `vectors::try_vector` is safe and ends: each piece is lent as far as it was read.
 -- Assumes nothing.
-use Prim.Native.Nat.{ℕ}
-use mathlib.Core.Path.{sym}
-use mathlib.Core.List.{_++_}
+use Prim.Native.Nat.{ℕ, _≤_}
+use mathlib.Core.List.{List, _++_}
 use native.Mathlib.Omega.{arith}
-use lib.ListN.{drop, replicate, length-replicate}
-use lib.Seq.{length-take-le}
+use lib.ListN.{length, drop, replicate, length-replicate}
 use borrow.Author.Needs.{needs}
-use Rattle.console.proofs.LentLaws.{lent-back}
+use Rattle.console.proofs.LentLaws.{lent, lent-back}
 use Rattle.vectors.proofs.try_vector.Statement.{statement}
 use Rattle.vectors.proofs.try_vector.Tie as tie
+
+abbrev labels : List ℕ
+labels = replicate 100 0
+
+-- the label's length is inside its array, before and after it was read
+label-in : (c : tie.Else1) → c .before .read-length .result ≤ length labels
+label-in c = omega (arith, length-replicate {A = ℕ} 100 0)
+
+label-read : (c : tie.After-label2)
+    → let n = c .before .before .before .before .read-length .result in
+    n ≤ length (c .before .read-piece .last .0 ++ drop n labels)
+label-read c =
+    let inside = label-in (c .before .before .before) in
+    omega (arith, lent-back _ (c .before .read-piece .last .0) labels (c .label2 .given) inside)
+
+-- so is the dossier's
+abbrev buffer-of : tie.Else2 → List ℕ
+buffer-of c =
+    let at-label = c .before .before .before in
+    at-label .before .before .before .large-buffer .result
+
+dossier-in : (c : tie.Else3) → c .before .read-length2 .result ≤ length (buffer-of (c .before .before))
+dossier-in c =
+    let at-label = c .before .before .before .before .before in
+    omega (arith, at-label .before .before .before .large-buffer .ensures)
+
+dossier-read : (c : tie.After-dossier2)
+    → let at-length = c .before .before .before .before in
+    let n = at-length .read-length2 .result in
+    n ≤ length (c .before .read-piece2 .last .0 ++ drop n (buffer-of (at-length .before)))
+dossier-read c =
+    let at-length = c .before .before .before .before in
+    let inside = dossier-in (c .before .before .before) in
+    omega (arith, lent-back _ (c .before .read-piece2 .last .0) (buffer-of (at-length .before)) (c .dossier2 .given) inside)
 
 large-buffer-requires : tie.Need-large-buffer-requires
 large-buffer-requires c κs = search needs
@@ -21,7 +53,7 @@ array-borrow-prefix-label : tie.Need-array-borrow-prefix-label
 array-borrow-prefix-label c = search needs
 
 slice-aggregate-read-piece : tie.Need-slice-aggregate-read-piece
-slice-aggregate-read-piece c = sym (length-take-le _ _ (omega (arith, length-replicate {A = ℕ} 100 0)))
+slice-aggregate-read-piece c = lent _ _ (label-in (c .before))
 
 read-piece-requires : tie.Need-read-piece-requires
 read-piece-requires c κs = search needs
@@ -36,7 +68,7 @@ array-borrow-prefix-dossier : tie.Need-array-borrow-prefix-dossier
 array-borrow-prefix-dossier c = search needs
 
 slice-aggregate-read-piece-2 : tie.Need-slice-aggregate-read-piece-2
-slice-aggregate-read-piece-2 c = sym (length-take-le _ _ (omega (arith, c .before .before .before .before .before .before .before .before .before .large-buffer .ensures)))
+slice-aggregate-read-piece-2 c = lent _ _ (dossier-in (c .before))
 
 read-piece-requires-2 : tie.Need-read-piece-requires-2
 read-piece-requires-2 c κs = search needs
@@ -51,21 +83,24 @@ returns-3 : tie.Need-returns-3
 returns-3 c = search needs
 
 array-share-prefix-label : tie.Need-array-share-prefix-label
-array-share-prefix-label c = omega (arith, length-replicate {A = ℕ} 100 0, lent-back (c .before .before .before .before .before .before .before .before .before .before .before .before .before .read-length .result) (c .before .before .before .before .before .before .before .before .before .before .read-piece .last .0) (replicate {A = ℕ} 100 0) (c .before .before .before .before .before .before .before .before .before .label2 .given) (omega (arith, length-replicate {A = ℕ} 100 0)))
+array-share-prefix-label c =
+    let at-dossier = c .before .before .before in
+    let at-length = at-dossier .before .before .before .before in
+    label-read (at-length .before .before)
 
 slice-aggregate-print-vector : tie.Need-slice-aggregate-print-vector
-slice-aggregate-print-vector c = sym (length-take-le _ _ (omega (arith, length-replicate {A = ℕ} 100 0, lent-back (c .before .before .before .before .before .before .before .before .before .before .before .before .before .before .read-length .result) (c .before .before .before .before .before .before .before .before .before .before .before .read-piece .last .0) (replicate {A = ℕ} 100 0) (c .before .before .before .before .before .before .before .before .before .before .label2 .given) (omega (arith, length-replicate {A = ℕ} 100 0)))))
+slice-aggregate-print-vector c = lent _ _ (array-share-prefix-label (c .before))
 
 array-share-prefix-dossier : tie.Need-array-share-prefix-dossier
-array-share-prefix-dossier c = omega (arith, c .before .before .before .before .before .before .before .before .before .before .before .before .before .before .before .large-buffer .ensures, lent-back (c .before .before .before .before .before .before .before .before .read-length2 .result) (c .before .before .before .before .before .read-piece2 .last .0) (c .before .before .before .before .before .before .before .before .before .before .before .before .before .before .before .large-buffer .result) (c .before .before .before .before .dossier2 .given) (omega (arith, c .before .before .before .before .before .before .before .before .before .before .before .before .before .before .before .large-buffer .ensures)))
+array-share-prefix-dossier c =
+    let at-room = c .before .before in
+    dossier-read (at-room .before .before)
 
 slice-aggregate-print-vector-2 : tie.Need-slice-aggregate-print-vector-2
-slice-aggregate-print-vector-2 c = sym (length-take-le _ _ (omega (arith, c .before .before .before .before .before .before .before .before .before .before .before .before .before .before .before .before .large-buffer .ensures, lent-back (c .before .before .before .before .before .before .before .before .before .read-length2 .result) (c .before .before .before .before .before .before .read-piece2 .last .0) (c .before .before .before .before .before .before .before .before .before .before .before .before .before .before .before .before .large-buffer .result) (c .before .before .before .before .before .dossier2 .given) (omega (arith, c .before .before .before .before .before .before .before .before .before .before .before .before .before .before .before .before .large-buffer .ensures)))))
+slice-aggregate-print-vector-2 c = lent _ _ (array-share-prefix-dossier (c .before))
 
 print-vector-requires : tie.Need-print-vector-requires
-print-vector-requires c κs =
-    let read = length-take-le (c .before .before .before .before .before .before .before .before .before .before .before .before .before .before .before .read-length .result) (c .before .before .before .before .before .before .before .before .before .before .before .before .read-piece .last .0 ++ drop (c .before .before .before .before .before .before .before .before .before .before .before .before .before .before .before .read-length .result) (replicate {A = ℕ} 100 0)) (omega (arith, length-replicate {A = ℕ} 100 0, lent-back (c .before .before .before .before .before .before .before .before .before .before .before .before .before .before .before .read-length .result) (c .before .before .before .before .before .before .before .before .before .before .before .before .read-piece .last .0) (replicate {A = ℕ} 100 0) (c .before .before .before .before .before .before .before .before .before .before .before .label2 .given) (omega (arith, length-replicate {A = ℕ} 100 0)))) in
-    (omega (arith, read), omega arith)
+print-vector-requires c κs = (omega (arith, slice-aggregate-print-vector (c .before)), omega arith)
 
 returns-4 : tie.Need-returns-4
 returns-4 c = search needs

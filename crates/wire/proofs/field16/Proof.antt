@@ -23,7 +23,11 @@ add-result : tie.Need-add-result
 add-result c = search needs
 
 returns : tie.Need-returns
-returns c = (rw (c .before .field8 .ensures .0, c .field82 .ensures .0) (sym (field-joined 1 1 (c .before .before .before .args .s .now) (c .before .before .before .args .at) (omega arith))), omega arith)
+returns c =
+    let at-first = c .before in
+    let given = at-first .before .before .args in
+    let joined = field-joined 1 1 (given .s .now) (given .at) (omega arith) in
+    (rw (at-first .field8 .ensures .0, c .field82 .ensures .0) (sym joined), omega arith)
 
 pub field16-spec : {M : Type 1} → statement M
 field16-spec =

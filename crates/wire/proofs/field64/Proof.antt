@@ -94,7 +94,26 @@ add-result-7 : tie.Need-add-result-7
 add-result-7 c = search needs
 
 returns : tie.Need-returns
-returns c = field-eight (c .before .before .before .before .before .before .before .before .before .args .s .now) (c .before .before .before .before .before .before .before .before .before .args .at) (omega arith) _ _ _ _ _ _ _ _ (c .before .before .before .before .before .before .before .field8 .ensures .0) (c .before .before .before .before .before .before .field82 .ensures .0) (c .before .before .before .before .before .field83 .ensures .0) (c .before .before .before .before .field84 .ensures .0) (c .before .before .before .field85 .ensures .0) (c .before .before .field86 .ensures .0) (c .before .field87 .ensures .0) (c .field88 .ensures .0)
+returns c =
+    let at-7 = c .before in
+    let at-6 = at-7 .before in
+    let at-5 = at-6 .before in
+    let at-4 = at-5 .before in
+    let at-3 = at-4 .before in
+    let at-2 = at-3 .before in
+    let at-1 = at-2 .before in
+    let given = at-1 .before .before .args in
+    rw (
+      at-1 .field8 .ensures .0,
+      at-2 .field82 .ensures .0,
+      at-3 .field83 .ensures .0,
+      at-4 .field84 .ensures .0,
+      at-5 .field85 .ensures .0,
+      at-6 .field86 .ensures .0,
+      at-7 .field87 .ensures .0,
+      c .field88 .ensures .0,
+    )
+    (field-eight (given .s .now) (given .at) (omega arith))
 
 pub field64-spec : {M : Type 1} → statement M
 field64-spec =

@@ -18,7 +18,11 @@ same-length c = search needs
 
 returns : tie.Need-returns
 unfolding figureBytes
-returns c = c .before .before .put64 .ensures ∙ rw (c .before .before .before .twos-complement .ensures, toZ-ofZ (c .before .before .before .before .before .before .fits .figure))
+returns c =
+    let at-stored = c .before .before in
+    let at-bits = at-stored .before in
+    let at-start = at-bits .before .before .before in
+    at-stored .put64 .ensures ∙ rw (at-bits .twos-complement .ensures, toZ-ofZ (at-start .fits .figure))
 
 pub put-figure-spec : {M : Type 1} → statement M
 put-figure-spec = tie.close (tie.spec twos-complement-requires put64-requires same-length returns)
