@@ -49,20 +49,16 @@ fn flows_into(areas: [AreaUnits; 12], matrix: &[u64; 144], factors: &[u64; 144],
     requires { ⌜ j < 12 ⌝ }
     ensures { λ r. ⌜ (r .area .0 ≡ nextArea areas (now (matrix .entry)) j) × (r .carbon .0 ≡ inflowCarbon (entry (now (factors .entry))) areas (now (matrix .entry)) j) ⌝ }
 {
-    let mut area: u64 = 0;
-    let mut carbon: u64 = 0;
+    let mut area = AreaUnits(0);
+    let mut carbon = CarbonUnits(0);
     let mut i: usize = 0;
     while i < 12 {
-        let f = flow(areas[i], matrix[12 * i + j]);
-        area = area + f.0;
-        let c = released(f, factors[12 * i + j]);
-        carbon = carbon + c.0;
+        let flowing = flow(areas[i], matrix[12 * i + j]);
+        area = area.plus(flowing);
+        carbon = carbon.plus(released(flowing, factors[12 * i + j]));
         i += 1;
     }
-    Inflow {
-        area: AreaUnits(area),
-        carbon: CarbonUnits(carbon),
-    }
+    Inflow { area, carbon }
 }
 
 // The total of twelve areas.
@@ -70,14 +66,13 @@ fn area_total(areas: [AreaUnits; 12]) -> AreaUnits
     requires { ⌜ areaTotal areas ≤ 1000000000000 ⌝ }
     ensures { λ r. ⌜ r .0 ≡ areaTotal areas ⌝ }
 {
-    let mut total: u64 = 0;
+    let mut total = AreaUnits(0);
     let mut i: usize = 0;
     while i < 12 {
-        let a = areas[i];
-        total = total + a.0;
+        total = total.plus(areas[i]);
         i += 1;
     }
-    AreaUnits(total)
+    total
 }
 
 impl Region {
@@ -90,25 +85,23 @@ impl Region {
     {
         let areas = self.areas;
         let mut next = [AreaUnits(0); 12];
-        let mut carbon: u64 = 0;
+        let mut carbon = CarbonUnits(0);
         let mut j: usize = 0;
         while j < 12 {
             let column = flows_into(areas, matrix, factors, j);
             let area = column.area;
-            let released = column.carbon;
             next[j] = area;
-            carbon = carbon + released.0;
+            carbon = carbon.plus(column.carbon);
             j += 1;
         }
-        let before = area_total(areas);
-        let after = area_total(next);
-        let lost = before.0 - after.0;
+        let lost = area_total(areas).minus(area_total(next));
+        let balance = self.balance.plus(lost);
         Projected {
             region: Region {
                 areas: next,
-                balance: AreaUnits(self.balance.0 + lost),
+                balance,
             },
-            carbon: CarbonUnits(carbon),
+            carbon,
         }
     }
 }

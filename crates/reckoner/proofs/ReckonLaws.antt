@@ -8,10 +8,8 @@ use native.Mathlib.Omega.{arith}
 use lib.ListN.{length, drop}
 use Rattle.wire.specs.Bytes.{Bytes}
 use Rattle.wire.proofs.BytesLaws.{bytes-drop}
-use Rattle.classes.specs.Classes.{carbonStocks, emissionFactor}
-use Rattle.classes.specs.Matrix.{entry, tableOf}
+use Rattle.classes.specs.Matrix.{entry}
 use Rattle.figures.specs.Year.{Year}
-use Rattle.figures.specs.Figures.{countedFactor}
 use Rattle.dossier.specs.Records.{Due, next as dueNext}
 use Rattle.dossier.specs.Reader.{Judged, refused, accepted, after, _>>=_, _>>_, give}
 use Rattle.dossier.specs.Judging.{year, end, years}
@@ -25,7 +23,7 @@ use Rattle.reckoner.specs.declared.Ledger.{Ledger}
 use Rattle.reckoner.specs.Ledger.{openedWith, openedLedger, NewlyOpened, termsOf, dueOf, withAdvanced, givenYear, givenYears}
 use Rattle.reckoner.specs.Calls.{yearsToCome, thenNumber, thenBuffer}
 use Rattle.reckoner.proofs.Invariant.{LedgerKept, due-kept, opened-kept, given-kept}
-use Rattle.reckoner.proofs.YearLaws.{none-given, one-given, next-inside}
+use Rattle.reckoner.proofs.YearLaws.{Tables, none-given, one-given, next-inside}
 
 -- ---- one year more
 given-more : (ys : List Year) (y : Year) (l : Ledger) → givenYears (ys ++ (y ∷ [])) l ≡ givenYear y (givenYears ys l)
@@ -89,10 +87,10 @@ module _ (s : List ℕ) (from : ℕ) (l : Ledger) (at : ℕ) (m : Ledger) (f : S
       go (refused n) e = e
       go (accepted x t) e = (rw (← all) (e .0), rw (← f .made) (e .1))
 
-  module _ (less : m .given < l .state .left) (stocks factors counted matrix : List ℕ) (es : stocks ≡ carbonStocks) (ef : factors ≡ tableOf (emissionFactor stocks)) (ec : counted ≡ tableOf (countedFactor (l .option) (entry factors))) (em : matrix ≡ l .matrix)
+  module _ (less : m .given < l .state .left) (factors counted matrix : List ℕ) (t : Tables (l .option) factors counted) (em : matrix ≡ l .matrix)
       (r : Stepped) (says : stepSays s r ≡ steppedYear (entry factors) (entry counted) matrix (dueIn (m .state) (m .start .0) (m .beltstart .0)) (m .state) (drop at s)) where
-    same-counted : counted ≡ tableOf (countedFactor (m .option) (entry factors))
-    same-counted = rw (f .option) ec
+    same-tables : Tables (m .option) factors counted
+    same-tables = rw (f .option) t
 
     same-says : stepSays s r ≡ steppedYear (entry factors) (entry counted) (m .matrix) (dueIn (m .state) (m .start .0) (m .beltstart .0)) (m .state) (drop at s)
     same-says = rw (f .matrix, ← em) says
@@ -102,12 +100,12 @@ module _ (s : List ℕ) (from : ℕ) (l : Ledger) (at : ℕ) (m : Ledger) (f : S
 
     pub faulty : (n : ℕ) → r .answer ≡ StepAnswer.Refused n → (buffer : List ℕ) → (n ≡ thenNumber (l .state .left) (yearsToCome l (drop from s)) (length buffer)) × (buffer ≡ thenBuffer (λ ys. givenYears ys l) (yearsToCome l (drop from s)) buffer)
     faulty n e buffer =
-        let j = years-refused (m .state .left) (dueOf m) (f .given) (drop at s) n some-left (none-given m stocks factors counted es ef same-counted s at r same-says n e) in
+        let j = years-refused (m .state .left) (dueOf m) (f .given) (drop at s) n some-left (none-given m factors counted same-tables s at r same-says n e) in
         rw (f .goesOn, j) (refl, refl)
 
     pub one-more : Bytes s → stepInside s (m .state) r → (next : ℕ) → r .answer ≡ StepAnswer.Next next → SoFar s from l next (withAdvanced m (r .advanced))
     one-more b i next e =
-        let g = one-given m stocks factors counted es ef same-counted s at r same-says next e in
+        let g = one-given m factors counted same-tables s at r same-says next e in
         go (g .value) (r .advanced) (g .made) (g .judged)
       where
         go : (y : Year) (a : Advanced) → a ≡ yearAdvanced (termsOf m) y (m .state) → accepted y (drop next s) ≡ year (dueOf m) (drop at s) → SoFar s from l next (withAdvanced m a)

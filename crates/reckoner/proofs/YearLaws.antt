@@ -3,18 +3,18 @@
 use mathlib.Core.Path.{_≡_, refl, _∙_, ap, sym}
 use mathlib.Core.Bool.{Bool, true, false, cond}
 use mathlib.Core.List.{List}
-use Prim.Native.Nat.{ℕ, _+_, _-_, _*_, _≤_, _<_}
+use Prim.Native.Nat.{ℕ, _-_, _≤_, _<_}
 use native.Mathlib.Omega.{arith}
 use lib.Dec.{eqb}
-use lib.ListN.{length, drop, getD}
+use lib.ListN.{length, drop}
 use borrow.Author.Tests.{eqb-false}
 use Rattle.wire.specs.Bytes.{Bytes}
-use Rattle.classes.specs.Classes.{NF, carbonStocks, emissionFactor}
+use Rattle.classes.specs.Classes.{carbonStocks, emissionFactor}
 use Rattle.classes.specs.Matrix.{entry, tableOf}
-use Rattle.classes.proofs.FactorLaws.{factor-le, built-in-le, table-le}
 use Rattle.projection.specs.Projection.{FactorsFit}
 use Rattle.figures.specs.Year.{Year}
 use Rattle.figures.specs.Figures.{countedFactor}
+use Rattle.figures.proofs.CountedLaws.{factors-fit, counted-fit}
 use Rattle.dossier.specs.Records.{Due}
 use Rattle.dossier.specs.Reader.{Judged, refused, accepted, after, _>>=_, _>>_, give, endOfPiece}
 use Rattle.dossier.specs.Judging.{noneLeft, yearDue, year, yearPiece}
@@ -31,25 +31,17 @@ use Rattle.reckoner.specs.declared.Step.{Step}
 use Rattle.reckoner.specs.Ledger.{termsOf, dueOf, withAdvanced, givenYear}
 use Rattle.reckoner.specs.Calls.{yearJudged, yearCall, HandedBack, given}
 
--- ---- the tables of factors fit 16 bits
-pub factors-fit : (stocks factors : List ℕ) → stocks ≡ carbonStocks → factors ≡ tableOf (emissionFactor stocks) → FactorsFit factors
-factors-fit stocks factors es ef k =
-    let l : getD factors k 0 ≤ 13511 = rw (ef, es) (table-le (emissionFactor carbonStocks) 13511 (factor-le carbonStocks 13511 built-in-le) k) in
-    omega arith
+-- ---- the tables of factors by the built-in stocks
+pub record Tables (option : ℕ) (factors counted : List ℕ) : Type 0 where
+  pub all : factors ≡ tableOf (emissionFactor carbonStocks)
+  pub some : counted ≡ tableOf (countedFactor option (emissionFactor carbonStocks))
 
-counted-le : (option : ℕ) (factors : List ℕ) → FactorsFit factors → (i j : ℕ) → countedFactor option (entry factors) i j ≤ 65535
-unfolding countedFactor
-counted-le option factors fit i j = pick (eqb option 1) (eqb j NF) (entry factors i j) (omega (arith, fit (12 * i + j)))
-  where
-    pick : (a b : Bool) (x : ℕ) → x ≤ 65535 → cond a (cond b x 0) x ≤ 65535
-    pick true true x h = h
-    pick true false x h = omega arith
-    pick false b x h = h
+pub tables : {option : ℕ} {stocks factors counted : List ℕ} → stocks ≡ carbonStocks
+    → (factors ≡ tableOf (emissionFactor stocks)) × (counted ≡ tableOf (countedFactor option (emissionFactor stocks))) → Tables option factors counted
+tables e t = let made = rw e at t in record { all = made .0; some = made .1 }
 
-pub counted-fit : (option : ℕ) (factors counted : List ℕ) → FactorsFit factors → counted ≡ tableOf (countedFactor option (entry factors)) → FactorsFit counted
-counted-fit option factors counted fit ec k =
-    let l : getD counted k 0 ≤ 65535 = rw ec (table-le (countedFactor option (entry factors)) 65535 (counted-le option factors fit) k) in
-    omega arith
+pub tables-fit : {option : ℕ} {factors counted : List ℕ} → Tables option factors counted → FactorsFit factors × FactorsFit counted
+tables-fit {option} t = (rw (t .all) factors-fit, rw (t .some) (counted-fit option))
 
 -- ---- what a step said of the year
 no-year : {A B : Type 0} (j : Judged A) (f : A → B) (n : ℕ) → refused n ≡ after j (λ a. give (f a)) → refused n ≡ j
@@ -78,11 +70,11 @@ left-for due s b y u e = go (eqb (due .left) 0) refl e
     go false f g = omega (arith, eqb-false (due .left) 0 f)
 
 -- a step of a ledger from a place of the bytes
-module _ (l : Ledger) (stocks factors counted : List ℕ) (es : stocks ≡ carbonStocks) (ef : factors ≡ tableOf (emissionFactor stocks)) (ec : counted ≡ tableOf (countedFactor (l .option) (entry factors)))
+module _ (l : Ledger) (factors counted : List ℕ) (t : Tables (l .option) factors counted)
     (s : List ℕ) (at : ℕ) (r : Stepped) (says : stepSays s r ≡ steppedYear (entry factors) (entry counted) (l .matrix) (dueIn (l .state) (l .start .0) (l .beltstart .0)) (l .state) (drop at s)) where
   in-terms : stepSays s r ≡ after (year (dueOf l) (drop at s)) (λ y. give (yearAdvanced (termsOf l) y (l .state)))
   unfolding dueOf termsOf
-  in-terms = says ∙ step-is (termsOf l) factors counted (ef ∙ ap (λ (x : List ℕ). tableOf (emissionFactor x)) es) ec (dueOf l) (l .state) (drop at s)
+  in-terms = says ∙ step-is (termsOf l) factors counted (t .all) (t .some) (dueOf l) (l .state) (drop at s)
 
   pub none-given : (n : ℕ) → r .answer ≡ StepAnswer.Refused n → refused n ≡ year (dueOf l) (drop at s)
   none-given n e = no-year (year (dueOf l) (drop at s)) (λ y. yearAdvanced (termsOf l) y (l .state)) n (rw e at in-terms)
@@ -91,15 +83,15 @@ module _ (l : Ledger) (stocks factors counted : List ℕ) (es : stocks ≡ carbo
   one-given next e = some-year (year (dueOf l) (drop at s)) (λ y. yearAdvanced (termsOf l) y (l .state)) (r .advanced) (drop next s) (rw e at in-terms)
 
 -- a step of a ledger over a whole piece
-module _ (l : Ledger) (stocks factors counted : List ℕ) (es : stocks ≡ carbonStocks) (ef : factors ≡ tableOf (emissionFactor stocks)) (ec : counted ≡ tableOf (countedFactor (l .option) (entry factors)))
+module _ (l : Ledger) (factors counted : List ℕ) (t : Tables (l .option) factors counted)
     (s : List ℕ) (r : Stepped) (says : stepSays s r ≡ steppedYear (entry factors) (entry counted) (l .matrix) (dueIn (l .state) (l .start .0) (l .beltstart .0)) (l .state) s) where
   pub year-no : (n : ℕ) → r .answer ≡ StepAnswer.Refused n → record { ledger = l; answer = Answer.Refused n } ≡ yearCall l s
   unfolding yearCall yearPiece
-  year-no n e = ap (yearJudged l) (bind-no (year (dueOf l)) _ s n (none-given l stocks factors counted es ef ec s 0 r says n e))
+  year-no n e = ap (yearJudged l) (bind-no (year (dueOf l)) _ s n (none-given l factors counted t s 0 r says n e))
 
   module _ (next : ℕ) (e : r .answer ≡ StepAnswer.Next next) where
     accepted-year : Given (year (dueOf l) s) (λ y. yearAdvanced (termsOf l) y (l .state)) (r .advanced) (drop next s)
-    accepted-year = one-given l stocks factors counted es ef ec s 0 r says next e
+    accepted-year = one-given l factors counted t s 0 r says next e
 
     -- a year was left
     pub year-left : Bytes s → 1 ≤ l .state .left

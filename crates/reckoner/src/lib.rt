@@ -200,8 +200,9 @@ impl Ledger {
         let belt = self.beltstart;
         let matrix = self.matrix;
         let stocks = classes::carbon_stocks();
-        let factors = classes::emission_factors(&stocks);
-        let counted = figures::counted_factors(self.option, &factors);
+        let mut factors = [0u64; 144];
+        let mut counted = [0u64; 144];
+        figures::fill_factors(&mut factors, &mut counted, &stocks, self.option);
         let stepped = reckoning::step(piece, 0, state, start, belt, &matrix, &factors, &counted);
         let answer = stepped.answer;
         let advanced = stepped.advanced;
@@ -298,8 +299,9 @@ fn reckon_years(s: &[u8], from: usize, mut ledger: Ledger, result: &mut [u8]) ->
 {
     let matrix = ledger.matrix;
     let stocks = classes::carbon_stocks();
-    let factors = classes::emission_factors(&stocks);
-    let counted = figures::counted_factors(ledger.option, &factors);
+    let mut factors = [0u64; 144];
+    let mut counted = [0u64; 144];
+    figures::fill_factors(&mut factors, &mut counted, &stocks, ledger.option);
     let opened = ledger.state;
     let years = opened.left;
     let mut at = from;

@@ -48,18 +48,18 @@ weight-all s factors at =
     ∙ monitored-places (cells s at 144) factors
 
 -- ---- one conversion more: x from its place, its carbon c
-module _ (s factors : List ℕ) (at k left carbon x c all : ℕ) (fit : FactorsFit factors) (ex : x ≡ fieldAt 8 s (at + 2 + 8 * k)) where
-  pub one-more : total (cells s at k) + left ≡ all → total (cells s at (suc k)) + left ≡ all + x
+module _ (s : List ℕ) (at k x : ℕ) (ex : x ≡ fieldAt 8 s (at + 2 + 8 * k)) where
+  pub one-more : (left all : ℕ) → total (cells s at k) + left ≡ all → total (cells s at (suc k)) + left ≡ all + x
   unfolding fieldAt
-  one-more h =
+  one-more left all h =
       let p : at + 2 + k * 8 ≡ at + 2 + 8 * k = omega arith in
       omega (arith, total-more k 8 s (at + 2) x (rw p ex))
 
-  pub weighed : carbon ≡ weight s factors at k → c ≡ x * getD factors k 0 → carbon + c ≡ weight s factors at (k + 1)
-  weighed e f = omega (arith, sum-next k (λ i. fieldAt 8 s (at + 2 + 8 * i) * getD factors i 0), f ∙ ap (λ (n : ℕ). n * getD factors k 0) ex)
+  pub weighed : (factors : List ℕ) (carbon c : ℕ) → carbon ≡ weight s factors at k → c ≡ x * getD factors k 0 → carbon + c ≡ weight s factors at (k + 1)
+  weighed factors carbon c e f = omega (arith, sum-next k (λ i. fieldAt 8 s (at + 2 + 8 * i) * getD factors i 0), f ∙ ap (λ (n : ℕ). n * getD factors k 0) ex)
 
-  pub small : c ≡ x * getD factors k 0 → c ≤ x * 65535
-  small f = rw f (mul-le-mul-left x (omega (arith, fit k)))
+pub released-le : (factors : List ℕ) (k x c : ℕ) → FactorsFit factors → c ≡ x * getD factors k 0 → c ≤ x * 65535
+released-le factors k x c fit f = rw f (mul-le-mul-left x (omega (arith, fit k)))
 
 -- ---- what the code answers
 module _ (s factors : List ℕ) (at m all r : ℕ) (h : begunSays s at r ≡ begin m 1152 (drop at s)) where

@@ -43,24 +43,23 @@ fn read_table(s: &[u8], at: usize, m: u64, total: AreaUnits, factors: &[u64; 144
     if fault != 0 {
         return TableAnswer::Refused(fault);
     }
-    let mut left = total.0;
-    let mut carbon: u64 = 0;
+    let mut left = total;
+    let mut carbon = CarbonUnits(0);
     let mut k: usize = 0;
     while k < 144 {
-        let x = wire::field64(s, at + 2 + 8 * k);
-        if left < x {
+        let x = AreaUnits(wire::field64(s, at + 2 + 8 * k));
+        if left.0 < x.0 {
             return TableAnswer::Refused(7);
         }
-        left = left - x;
-        let c = projection::released(AreaUnits(x), factors[k]);
-        carbon = carbon + c.0;
+        left = left.minus(x);
+        carbon = carbon.plus(projection::released(x, factors[k]));
         k += 1;
     }
-    if left != 0 {
+    if left.0 != 0 {
         return TableAnswer::Refused(7);
     }
     TableAnswer::Read {
-        carbon: CarbonUnits(carbon),
+        carbon,
         next: at + 1154,
     }
 }

@@ -1,26 +1,40 @@
 -- `reckoner::Ledger::year` meets its contract: the year is reckoned, the piece ends there, and the ledger takes its figures.
 -- Assumes nothing.
+use mathlib.Core.Path.{refl}
 use native.Mathlib.Omega.{arith}
 use borrow.Author.Needs.{needs}
 use Rattle.reckoner.proofs.Invariant.{handed-kept, state-kept}
-use Rattle.reckoner.proofs.YearLaws.{factors-fit, counted-fit, year-no, year-lone, year-beyond, year-here, year-handed, year-left, next-inside}
+use Rattle.reckoner.proofs.YearLaws.{Tables, tables, tables-fit, year-no, year-lone, year-beyond, year-here, year-handed, year-left, next-inside}
 use Rattle.reckoner.proofs.Ledger.year.Statement.{statement}
 use Rattle.reckoner.proofs.Ledger.year.Tie as tie
+
+-- where the step stands: after the tables are filled, and after the start
+abbrev at-tables : tie.After-counted2 → tie.After-fill-factors
+at-tables c = c .before .before .before
+
+abbrev at-stocks : tie.After-counted2 → tie.After-carbon-stocks
+at-stocks c = at-tables c .before .before .before .before
+
+abbrev at-entry : tie.After-counted2 → tie.After-shared-slice-known
+at-entry c = at-stocks c .before .before .before .before .before
+
+abbrev at-start : tie.After-counted2 → tie.Start
+at-start c = at-entry c .before
+
+filled : (c : tie.After-counted2) → Tables (at-start c .args .self .option) (at-tables c .fill-factors .last .0) (at-tables c .fill-factors .last .1 .0)
+filled c = tables (at-stocks c .carbon-stocks .ensures) (at-tables c .fill-factors .ensures)
 
 carbon-stocks-requires : tie.Need-carbon-stocks-requires
 carbon-stocks-requires c κs = search needs
 
-emission-factors-requires : tie.Need-emission-factors-requires
-emission-factors-requires c κs = search needs
-
-counted-factors-requires : tie.Need-counted-factors-requires
-counted-factors-requires c κs = search needs
+fill-factors-requires : tie.Need-fill-factors-requires
+fill-factors-requires c κs = (refl, refl)
 
 step-requires : tie.Need-step-requires
-step-requires c κs = let k = handed-kept (c .before .before .before .before .before .before .before .before .before .before .before .before .before .pre) in
-    let fit = factors-fit (c .before .before .before .before .before .before .before .carbon-stocks .result) (c .before .before .before .before .before .emission-factors .result) (c .before .before .before .before .before .before .before .carbon-stocks .ensures) (c .before .before .before .before .before .emission-factors .ensures) in
-    let counted = counted-fit (c .before .before .before .before .before .before .before .before .before .before .before .before .before .args .self .option) (c .before .before .before .before .before .emission-factors .result) (c .before .before .before .counted-factors .result) fit (c .before .before .before .counted-factors .ensures) in
-    ((omega arith, k .project .small, k .belt .small), (state-kept (c .before .before .before .before .before .before .before .before .before .before .before .before .before .args .self) k, (k .rows, (fit, counted))))
+step-requires c κs =
+    let kept = handed-kept (at-start c .pre) in
+    let (fit, counted) = tables-fit (filled c) in
+    ((omega arith, kept .project .small, kept .belt .small), (state-kept (at-start c .args .self) kept, (kept .rows, (fit, counted))))
 
 enum-known-answer : tie.Need-enum-known-answer
 enum-known-answer c = search needs
@@ -28,31 +42,57 @@ enum-known-answer c = search needs
 enum-known-answer-2 : tie.Need-enum-known-answer-2
 enum-known-answer-2 c = search needs
 
+-- the step that was answered with the place after the year
+abbrev at-step : tie.After-known-told2 → tie.After-step
+at-step k = k .before .before .before .before
+
 sub-beyond : tie.Need-sub-beyond
-sub-beyond c = next-inside (c .before .before .before .before .before .before .before .before .before .before .before .before .before .before .before .before .before .before .args .piece .now) _ (c .before .before .before .before .step .result) _ (c .before .answer2 .given .1) (c .before .before .before .before .step .ensures .1)
+sub-beyond c = next-inside (at-start (at-step c .before) .args .piece .now) _ _ _ (c .before .answer2 .given .1) (at-step c .step .ensures .1)
 
 returns : tie.Need-returns
-returns c = let e = year-lone (c .before .before .before .before .before .before .before .before .before .before .before .before .before .before .before .before .before .before .before .args .self) (c .before .before .before .before .before .before .before .before .before .before .before .before .before .carbon-stocks .result) (c .before .before .before .before .before .before .before .before .before .before .before .emission-factors .result) (c .before .before .before .before .before .before .before .before .before .counted-factors .result) (c .before .before .before .before .before .before .before .before .before .before .before .before .before .carbon-stocks .ensures) (c .before .before .before .before .before .before .before .before .before .before .before .emission-factors .ensures) (c .before .before .before .before .before .before .before .before .before .counted-factors .ensures) (c .before .before .before .before .before .before .before .before .before .before .before .before .before .before .before .before .before .before .before .args .piece .now) (c .before .before .before .before .before .step .result) (c .before .before .before .before .before .step .ensures .0) _ (c .before .before .answer2 .given .1) (c .if1 .taken) in (e, c .before .before .before .before .before .before .before .before .before .before .before .before .before .before .before .before .before .before .before .pre)
+returns c =
+    let k = c .before in
+    let s = at-step k in
+    let start = at-start (s .before) in
+    (year-lone (start .args .self) _ _ (filled (s .before)) (start .args .piece .now) _ (s .step .ensures .0) _ (k .before .answer2 .given .1) (c .if1 .taken), start .pre)
 
 returns-2 : tie.Need-returns-2
-returns-2 c = let e = year-beyond (c .before .before .before .before .before .before .before .before .before .before .before .before .before .before .before .before .before .before .before .before .args .self) (c .before .before .before .before .before .before .before .before .before .before .before .before .before .before .carbon-stocks .result) (c .before .before .before .before .before .before .before .before .before .before .before .before .emission-factors .result) (c .before .before .before .before .before .before .before .before .before .before .counted-factors .result) (c .before .before .before .before .before .before .before .before .before .before .before .before .before .before .carbon-stocks .ensures) (c .before .before .before .before .before .before .before .before .before .before .before .before .emission-factors .ensures) (c .before .before .before .before .before .before .before .before .before .before .counted-factors .ensures) (c .before .before .before .before .before .before .before .before .before .before .before .before .before .before .before .before .before .before .before .before .args .piece .now) (c .before .before .before .before .before .before .step .result) (c .before .before .before .before .before .before .step .ensures .0) _ (c .before .before .before .answer2 .given .1) (c .before .if1 .left) (c .if2 .taken) in (e, c .before .before .before .before .before .before .before .before .before .before .before .before .before .before .before .before .before .before .before .before .pre)
+returns-2 c =
+    let k = c .before .before in
+    let s = at-step k in
+    let start = at-start (s .before) in
+    let beyond = year-beyond (start .args .self) _ _ (filled (s .before)) (start .args .piece .now) _ (s .step .ensures .0) _ (k .before .answer2 .given .1) in
+    (beyond (c .before .if1 .left) (c .if2 .taken), start .pre)
 
 with-year-requires : tie.Need-with-year-requires
-with-year-requires c κs = omega (arith, handed-kept (c .before .before .before .before .before .before .before .before .before .before .before .before .before .before .before .before .before .before .before .before .pre) .count, year-left (c .before .before .before .before .before .before .before .before .before .before .before .before .before .before .before .before .before .before .before .before .args .self) (c .before .before .before .before .before .before .before .before .before .before .before .before .before .before .carbon-stocks .result) (c .before .before .before .before .before .before .before .before .before .before .before .before .emission-factors .result) (c .before .before .before .before .before .before .before .before .before .before .counted-factors .result) (c .before .before .before .before .before .before .before .before .before .before .before .before .before .before .carbon-stocks .ensures) (c .before .before .before .before .before .before .before .before .before .before .before .before .emission-factors .ensures) (c .before .before .before .before .before .before .before .before .before .before .counted-factors .ensures) (c .before .before .before .before .before .before .before .before .before .before .before .before .before .before .before .before .before .before .before .before .args .piece .now) (c .before .before .before .before .before .before .step .result) (c .before .before .before .before .before .before .step .ensures .0) _ (c .before .before .before .answer2 .given .1) (λ k. c .before .before .before .before .before .before .before .before .before .before .before .before .before .before .before .before .before .before .before .shared-slice-known .given k .fits))
+with-year-requires c κs =
+    let k = c .before .before in
+    let s = at-step k in
+    let start = at-start (s .before) in
+    let left = year-left (start .args .self) _ _ (filled (s .before)) (start .args .piece .now) _ (s .step .ensures .0) _ (k .before .answer2 .given .1) in
+    omega (arith, handed-kept (start .pre) .count, left (λ k. at-entry (s .before) .shared-slice-known .given k .fits))
 
 returns-3 : tie.Need-returns-3
-returns-3 c = let e = year-no (c .before .before .before .before .before .before .before .before .before .before .before .before .before .before .before .before .before .before .args .self) (c .before .before .before .before .before .before .before .before .before .before .before .before .carbon-stocks .result) (c .before .before .before .before .before .before .before .before .before .before .emission-factors .result) (c .before .before .before .before .before .before .before .before .counted-factors .result) (c .before .before .before .before .before .before .before .before .before .before .before .before .carbon-stocks .ensures) (c .before .before .before .before .before .before .before .before .before .before .emission-factors .ensures) (c .before .before .before .before .before .before .before .before .counted-factors .ensures) (c .before .before .before .before .before .before .before .before .before .before .before .before .before .before .before .before .before .before .args .piece .now) (c .before .before .before .before .step .result) (c .before .before .before .before .step .ensures .0) _ (c .before .answer .given .1) in (e, c .before .before .before .before .before .before .before .before .before .before .before .before .before .before .before .before .before .before .pre)
+returns-3 c =
+    let s = c .before .before .before .before in
+    let start = at-start (s .before) in
+    (year-no (start .args .self) _ _ (filled (s .before)) (start .args .piece .now) _ (s .step .ensures .0) _ (c .before .answer .given .1), start .pre)
 
 returns-4 : tie.Need-returns-4
-returns-4 c = let e = year-here (c .before .before .before .before .before .before .before .before .before .before .before .before .before .before .before .before .before .before .before .before .before .args .self) (c .before .before .before .before .before .before .before .before .before .before .before .before .before .before .before .carbon-stocks .result) (c .before .before .before .before .before .before .before .before .before .before .before .before .before .emission-factors .result) (c .before .before .before .before .before .before .before .before .before .before .before .counted-factors .result) (c .before .before .before .before .before .before .before .before .before .before .before .before .before .before .before .carbon-stocks .ensures) (c .before .before .before .before .before .before .before .before .before .before .before .before .before .emission-factors .ensures) (c .before .before .before .before .before .before .before .before .before .before .before .counted-factors .ensures) (c .before .before .before .before .before .before .before .before .before .before .before .before .before .before .before .before .before .before .before .before .before .args .piece .now) (c .before .before .before .before .before .before .before .step .result) (c .before .before .before .before .before .before .before .step .ensures .0) _ (c .before .before .before .before .answer2 .given .1) (c .before .if2 .left) _ (c .with-year .ensures) in (e, year-handed (c .before .before .before .before .before .before .before .before .before .before .before .before .before .before .before .before .before .before .before .before .before .args .self) (c .before .before .before .before .before .before .before .before .before .before .before .before .before .before .before .before .before .before .before .before .before .args .piece .now) _ _ (c .before .before .before .before .before .before .before .before .before .before .before .before .before .before .before .before .before .before .before .before .before .pre) (λ k. c .before .before .before .before .before .before .before .before .before .before .before .before .before .before .before .before .before .before .before .before .shared-slice-known .given k .fits) e)
+returns-4 c =
+    let k = c .before .before .before in
+    let s = at-step k in
+    let start = at-start (s .before) in
+    let here = year-here (start .args .self) _ _ (filled (s .before)) (start .args .piece .now) _ (s .step .ensures .0) _ (k .before .answer2 .given .1) in
+    let e = here (c .before .if2 .left) _ (c .with-year .ensures) in
+    (e, year-handed (start .args .self) (start .args .piece .now) _ _ (start .pre) (λ k. at-entry (s .before) .shared-slice-known .given k .fits) e)
 
 pub year-spec : {M : Type 1} → statement M
 year-spec =
     tie.close
     (tie.spec
     carbon-stocks-requires
-    emission-factors-requires
-    counted-factors-requires
+    fill-factors-requires
     step-requires
     enum-known-answer
     enum-known-answer-2
