@@ -12,7 +12,7 @@ use Rattle.arithmetic.specs.Sum.{listed}
 use Rattle.arithmetic.proofs.SumLaws.{length-listed}
 
 -- to store a list, and another behind it, is to store both joined
-sets-append : {A : Type 0} (l : List A) (i : ℕ) (xs ys : List A) → sets l i (xs ++ ys) ≡ sets (sets l i xs) (i + length xs) ys
+pub sets-append : {A : Type 0} (l : List A) (i : ℕ) (xs ys : List A) → sets l i (xs ++ ys) ≡ sets (sets l i xs) (i + length xs) ys
 sets-append l i [] ys = rw add-zero
 sets-append l i (x ∷ xs) ys =
     let e : i + suc (length xs) ≡ suc i + length xs = omega arith in
@@ -33,7 +33,8 @@ listed-add n zero f = rw add-zero (sym (append-nil (listed n f)))
 listed-add n (suc m) f = rw (add-suc, listed-add n m f, append-assoc)
 
 -- m entries more are stored
-pub entries-stored : {A : Type 0} (l r : List A) (k at n m : ℕ) (f : ℕ → A) → r ≡ sets l k (listed n f) → at ≡ k + n → sets r at (listed m (λ j. f (n + j))) ≡ sets l k (listed (n + m) f)
+pub entries-stored : {A : Type 0} (l r : List A) (k at n m : ℕ) (f : ℕ → A) → r ≡ sets l k (listed n f) → at ≡ k + n
+    → sets r at (listed m (λ j. f (n + j))) ≡ sets l k (listed (n + m) f)
 entries-stored l r k at n m f p e = stored-next l r k at (listed n f) _ _ p (rw (length-listed n f) e) (listed-add n m f)
 
 -- the next entry is stored

@@ -24,7 +24,7 @@ withRow table i f = sets table (12 * i) (listed 12 f)
 
 -- probabilities are in millionths
 abbrev pub million : ℕ
-million = 1000000
+million = 1_000_000
 
 -- each row sums to 1,000,000
 abbrev pub RowsSum : List ℕ → Type 0

@@ -160,7 +160,7 @@ fn option_one(i: usize, j: usize) -> u64
     ensures { λ r. ⌜ r ≡ optionOne i j ⌝ }
 {
     if j == i {
-        return 1000000 - DEFORESTATION_PROBABILITIES[i];
+        return 1_000_000 - DEFORESTATION_PROBABILITIES[i];
     }
     if j == NF {
         DEFORESTATION_PROBABILITIES[i]

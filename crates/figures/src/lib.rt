@@ -156,7 +156,7 @@ pub fn tonnes(total: Grams) -> u64
     if total.0 < 0 {
         return 0;
     }
-    arithmetic::magnitude(total.0) / 1000000
+    arithmetic::magnitude(total.0) / 1_000_000
 }
 
 // The figures of a year, from the carbon of the project area and of the belt and the emissions of the activity records.

@@ -10,10 +10,11 @@ use lib.ListN.{length, drop}
 use lib.Seq.{drop-drop, sets}
 use Rattle.arithmetic.specs.Sum.{sum}
 use Rattle.arithmetic.proofs.SumLaws.{sum-cong}
+use Rattle.arithmetic.proofs.StoreLaws.{stored-next, all-stored}
 use Rattle.classes.specs.Classes.{classes}
 use Rattle.classes.specs.Matrix.{entry, million, optionOneMatrix}
 use Rattle.wire.specs.Bytes.{numbers, total, fieldAt}
-use Rattle.wire.proofs.BytesLaws.{length-numbers}
+use Rattle.wire.proofs.BytesLaws.{length-numbers, getD-numbers}
 use Rattle.dossier.specs.Marks.{MP}
 use Rattle.dossier.specs.Reader.{Judged, refused, accepted, _>>=_, _>>_, give, begin}
 use Rattle.dossier.specs.JudgingRecords.{rows, matrix, matrixUnder}
@@ -23,7 +24,6 @@ use Rattle.cursor.specs.Answers.{begunSays}
 use Rattle.cursor.proofs.AtLaws.{begun-no, begun-yes, fields-is}
 use Rattle.opening.specs.declared.MatrixAnswer.{MatrixAnswer}
 use Rattle.opening.specs.Answers.{matrixJudged, matrixFacts, matrixOf, matrixInUse, matrixUnderJudged, matrixUnderFacts}
-use Rattle.opening.proofs.NumbersLaws.{getD-numbers, stored-next, all-stored}
 
 -- the first i rows of MP at a place have the right sum
 abbrev pub RowsRight : List ℕ → ℕ → ℕ → Type 0

@@ -3,8 +3,8 @@ use classes::AreaUnits;
 use classes::CarbonUnits;
 ghost use mathlib.Core.Path.{_≡_};
 ghost use Prim.Native.Nat.{_*_, _/_, _≤_, _<_};
-ghost use Rattle.classes.specs.Matrix.{entry};
-ghost use Rattle.projection.specs.Projection.{areaTotal, nextArea, projectedYear, SmallRegion, RowsWithin, FactorsFit};
+ghost use Rattle.classes.specs.Matrix.{entry, million};
+ghost use Rattle.projection.specs.Projection.{areaTotal, nextArea, projectedYear, SmallArea, SmallRegion, RowsWithin, FactorsFit};
 ghost use Rattle.projection.specs.Projection.{inflowCarbon};
 
 // The twelve areas of a region by class, and its balance: the area that rounding lost so far.
@@ -27,15 +27,15 @@ struct Inflow {
 
 // The flow of an area at a probability in millionths, rounded down.
 fn flow(area: AreaUnits, probability: u64) -> AreaUnits
-    requires { ⌜ (area .0 ≤ 1000000000000) × (probability ≤ 1000000) ⌝ }
-    ensures { λ r. ⌜ r .0 ≡ area .0 * probability / 1000000 ⌝ }
+    requires { ⌜ SmallArea (area .0) × (probability ≤ million) ⌝ }
+    ensures { λ r. ⌜ r .0 ≡ area .0 * probability / million ⌝ }
 {
-    AreaUnits(area.0 * probability / 1000000)
+    AreaUnits(area.0 * probability / 1_000_000)
 }
 
 // The carbon that an area sets free by an emission factor.
 pub fn released(area: AreaUnits, factor: u64) -> CarbonUnits
-    requires { ⌜ (area .0 ≤ 1000000000000) × (factor < 65536) ⌝ }
+    requires { ⌜ SmallArea (area .0) × (factor < 65536) ⌝ }
     ensures { λ r. ⌜ r .0 ≡ area .0 * factor ⌝ }
 {
     CarbonUnits(area.0 * factor)
@@ -43,7 +43,7 @@ pub fn released(area: AreaUnits, factor: u64) -> CarbonUnits
 
 // The flows into class j.
 fn flows_into(areas: [AreaUnits; 12], matrix: &[u64; 144], factors: &[u64; 144], j: usize) -> Inflow
-    requires { ⌜ areaTotal areas ≤ 1000000000000 ⌝ }
+    requires { ⌜ SmallArea (areaTotal areas) ⌝ }
     requires { ⌜ RowsWithin (now matrix) ⌝ }
     requires { ⌜ FactorsFit (now factors) ⌝ }
     requires { ⌜ j < 12 ⌝ }
@@ -63,7 +63,7 @@ fn flows_into(areas: [AreaUnits; 12], matrix: &[u64; 144], factors: &[u64; 144],
 
 // The total of twelve areas.
 fn area_total(areas: [AreaUnits; 12]) -> AreaUnits
-    requires { ⌜ areaTotal areas ≤ 1000000000000 ⌝ }
+    requires { ⌜ SmallArea (areaTotal areas) ⌝ }
     ensures { λ r. ⌜ r .0 ≡ areaTotal areas ⌝ }
 {
     let mut total = AreaUnits(0);

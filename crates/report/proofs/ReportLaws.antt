@@ -3,28 +3,23 @@
 use mathlib.Core.Path.{_≡_, refl, _∙_, ap, sym}
 use mathlib.Core.List.{List, [], _∷_, _++_, append-assoc, append-nil}
 use Prim.Native.Nat.{ℕ, suc, _+_, _*_, _^_, _≤_, _<_}
-use native.Mathlib.Nat.{add-zero}
 use native.Mathlib.Numerals.{add-one}
 use native.Mathlib.Omega.{arith}
 use lib.IntN.{ℤ, pos, negsuc}
 use lib.Signed.{mag}
-use lib.ListN.{length, take, getD, set, length-append}
+use lib.ListN.{length, take, getD, length-append}
 use lib.Seq.{sets, take-suc, length-take-le}
+use Rattle.arithmetic.proofs.StoreLaws.{sets-append}
 use Rattle.wire.specs.Signed.{figureBytes, figuresBytes, written}
 use Rattle.wire.proofs.SignedLaws.{length-figure, written-next}
 use Rattle.figures.specs.declared.Figures.{Figures}
 use Rattle.figures.specs.Figures.{tonnesOf}
 use Rattle.report.specs.Report.{eight, eights, closing, reported}
 
--- stores of one list right after another are stores of both
-sets-append : (v w s : List ℕ) (at : ℕ) → sets s at (v ++ w) ≡ sets (sets s at v) (at + length v) w
-sets-append [] w s at = simp add-zero
-sets-append (x ∷ v) w s at = sets-append v w (set s at x) (suc at) ∙ ap (λ (n : ℕ). sets (sets (set s at x) (suc at) v) n w) (omega arith)
-
 -- a list of figures is stored figure after figure
 stored-next : (z : ℤ) (rest : List ℤ) (s : List ℕ) (at next : ℕ) → at + 8 ≡ next → sets s at (figuresBytes (z ∷ rest)) ≡ sets (sets s at (figureBytes z)) next (figuresBytes rest)
 unfolding figuresBytes
-stored-next z rest s at next e = sets-append (figureBytes z) (figuresBytes rest) s at ∙ rw (length-figure z, e)
+stored-next z rest s at next e = sets-append s at (figureBytes z) (figuresBytes rest) ∙ rw (length-figure z, e)
 
 -- no figure is stored
 stored-none : (s : List ℕ) (at : ℕ) → sets s at (figuresBytes []) ≡ s

@@ -6,7 +6,7 @@ ghost use mathlib.Core.Path.{_≡_};
 ghost use Prim.Native.Nat.{_≤_};
 ghost use lib.ListN.{length, drop};
 ghost use Rattle.classes.specs.Matrix.{entry};
-ghost use Rattle.projection.specs.Projection.{FactorsFit};
+ghost use Rattle.projection.specs.Projection.{SmallArea, FactorsFit};
 ghost use Rattle.years.specs.Answers.{monitoredTable, tableSays, tableInside, summarizedRecords, summarizedTables, summarizedYear, yearSays, recordsInside, tablesInside, yearFits};
 
 const YR: u64 = 0x5952;
@@ -34,7 +34,7 @@ pub enum YearAnswer {
 
 // CP or CD from at: 144 conversions whose sum is total, weighed by the factors. Each is tested against what is left of the total.
 fn read_table(s: &[u8], at: usize, m: u64, total: AreaUnits, factors: &[u64; 144]) -> TableAnswer
-    requires { ⌜ (at ≤ length (now s)) × (total .0 ≤ 1000000000000) ⌝ }
+    requires { ⌜ (at ≤ length (now s)) × SmallArea (total .0) ⌝ }
     requires { ⌜ FactorsFit (now factors) ⌝ }
     ensures { λ r. ⌜ tableSays (now (s .entry)) r ≡ monitoredTable (entry (now (factors .entry))) m (total .0) (drop at (now (s .entry))) ⌝ }
     ensures { λ r. ⌜ tableInside (now (s .entry)) r ⌝ }
@@ -74,7 +74,7 @@ fn read_tables(
     belt: AreaUnits,
     factors: &[u64; 144],
 ) -> YearAnswer
-    requires { ⌜ (at ≤ length (now s)) × (project .0 ≤ 1000000000000) × (belt .0 ≤ 1000000000000) ⌝ }
+    requires { ⌜ (at ≤ length (now s)) × SmallArea (project .0) × SmallArea (belt .0) ⌝ }
     requires { ⌜ FactorsFit (now factors) ⌝ }
     ensures { λ r. ⌜ yearSays (now (s .entry)) r ≡ summarizedTables (entry (now (factors .entry))) year days (project .0) (belt .0) (drop at (now (s .entry))) ⌝ }
     ensures { λ r. ⌜ tablesInside (now (s .entry)) r ⌝ }
@@ -131,7 +131,7 @@ pub fn read_year(
     belt: AreaUnits,
     factors: &[u64; 144],
 ) -> YearAnswer
-    requires { ⌜ (at ≤ length (now s)) × (project .0 ≤ 1000000000000) × (belt .0 ≤ 1000000000000) ⌝ }
+    requires { ⌜ (at ≤ length (now s)) × SmallArea (project .0) × SmallArea (belt .0) ⌝ }
     requires { ⌜ FactorsFit (now factors) ⌝ }
     ensures { λ r. ⌜ yearSays (now (s .entry)) r ≡ summarizedYear (entry (now (factors .entry))) (record { nextYear = year; left = left; projectTotal = project .0; beltTotal = belt .0 }) (drop at (now (s .entry))) ⌝ }
     ensures { λ r. ⌜ tablesInside (now (s .entry)) r ⌝ }

@@ -15,18 +15,23 @@ use Rattle.years.proofs.read_year.Tie as tie
 abbrev dueAt : tie.Start → Due
 dueAt c = record { nextYear = c .args .year; left = c .args .left; projectTotal = c .args .project .0; beltTotal = c .args .belt .0 }
 
--- the year that was read is the one that is due
-read-due : (c : tie.Else3) → c .before .before .before .before .before .before .args .year ≡ fieldAt 2 (c .before .before .before .before .before .before .args .s .now) (c .before .before .before .before .before .before .args .at + 2)
-read-due c = sym (c .if3 .left) ∙ c .before .field16 .ensures .0
-
 begun-requires : tie.Need-begun-requires
 begun-requires c κs = search needs
 
 returns : tie.Need-returns
-returns c = (year-no (entry (c .before .before .before .args .factors .now)) (dueAt (c .before .before .before)) (c .before .before .before .args .s .now) (c .before .before .before .args .at) (c .before .begun .result) (c .before .begun .ensures .0) (c .if1 .taken), (tt, tt))
+returns c =
+    let at-begun = c .before in
+    let at-start = at-begun .before .before in
+    let a = at-start .args in
+    (year-no (entry (a .factors .now)) (dueAt at-start) (a .s .now) (a .at) (at-begun .begun .result) (at-begun .begun .ensures .0) (c .if1 .taken), (tt, tt))
 
 returns-2 : tie.Need-returns-2
-returns-2 c = (none-left (entry (c .before .before .before .before .args .factors .now)) (dueAt (c .before .before .before .before)) (c .before .before .before .before .args .s .now) (c .before .before .before .before .args .at) (c .before .before .begun .result) (c .before .before .begun .ensures .0) (c .before .if1 .left) (c .if2 .taken), (tt, tt))
+returns-2 c =
+    let at-begun = c .before .before in
+    let at-start = at-begun .before .before in
+    let a = at-start .args in
+    let none = none-left (entry (a .factors .now)) (dueAt at-start) (a .s .now) (a .at) (at-begun .begun .result) (at-begun .begun .ensures .0) in
+    (none (c .before .if1 .left) (c .if2 .taken), (tt, tt))
 
 add-field16 : tie.Need-add-field16
 add-field16 c = search needs
@@ -35,7 +40,14 @@ field16-requires : tie.Need-field16-requires
 field16-requires c κs = search needs
 
 returns-3 : tie.Need-returns-3
-returns-3 c = (year-other (entry (c .before .before .before .before .before .before .args .factors .now)) (dueAt (c .before .before .before .before .before .before)) (c .before .before .before .before .before .before .args .s .now) (c .before .before .before .before .before .before .args .at) (c .before .before .before .before .begun .result) (c .before .before .before .before .begun .ensures .0) (c .before .before .before .if1 .left) (c .before .before .if2 .left) _ _ (c .before .field16 .ensures .0) refl (c .if3 .taken), (tt, tt))
+returns-3 c =
+    let at-year = c .before in
+    let some = at-year .before in
+    let at-begun = some .before .before in
+    let at-start = at-begun .before .before in
+    let a = at-start .args in
+    let other = year-other (entry (a .factors .now)) (dueAt at-start) (a .s .now) (a .at) (at-begun .begun .result) (at-begun .begun .ensures .0) in
+    (other (some .before .if1 .left) (some .if2 .left) _ _ (at-year .field16 .ensures .0) refl (c .if3 .taken), (tt, tt))
 
 add-field16-2 : tie.Need-add-field16-2
 add-field16-2 c = search needs
@@ -49,8 +61,27 @@ days-in-year-requires c κs = search needs
 outside-requires : tie.Need-outside-requires
 outside-requires c κs = search needs
 
+-- where d is tested, some years are left
+abbrev some-left : tie.After-outside → tie.Else2
+some-left c = c .before .before .before .before .before
+
+abbrev at-begun : tie.After-outside → tie.After-begun
+at-begun c = some-left c .before .before
+
+abbrev at-start : tie.After-outside → tie.Start
+at-start c = at-begun c .before .before
+
+-- the year that was read is the one that is due
+read-due : (c : tie.After-outside) → let a = at-start c .args in a .year ≡ fieldAt 2 (a .s .now) (a .at + 2)
+read-due c = let due = c .before .before .before in sym (due .if3 .left) ∙ due .before .field16 .ensures .0
+
 returns-4 : tie.Need-returns-4
-returns-4 c = (days-wrong (entry (c .before .before .before .before .before .before .before .before .before .before .args .factors .now)) (dueAt (c .before .before .before .before .before .before .before .before .before .before)) (c .before .before .before .before .before .before .before .before .before .before .args .s .now) (c .before .before .before .before .before .before .before .before .before .before .args .at) (c .before .before .before .before .before .before .before .before .begun .result) (c .before .before .before .before .before .before .before .before .begun .ensures .0) (c .before .before .before .before .before .before .before .if1 .left) (c .before .before .before .before .before .before .if2 .left) _ _ (read-due (c .before .before .before .before)) (c .before .before .before .field162 .ensures .0) refl _ (c .before .before .days-in-year .ensures) _ (c .before .outside .ensures) (c .if4 .taken), (tt, tt))
+returns-4 c =
+    let k = c .before in
+    let a = at-start k .args in
+    let wrong = days-wrong (entry (a .factors .now)) (dueAt (at-start k)) (a .s .now) (a .at) (at-begun k .begun .result) (at-begun k .begun .ensures .0) in
+    let at-days = wrong (some-left k .before .if1 .left) (some-left k .if2 .left) _ _ (read-due k) (k .before .before .field162 .ensures .0) refl in
+    (at-days _ (k .before .days-in-year .ensures) _ (k .outside .ensures) (c .if4 .taken), (tt, tt))
 
 add-read-tables : tie.Need-add-read-tables
 add-read-tables c = search needs
@@ -59,10 +90,17 @@ read-tables-requires : tie.Need-read-tables-requires
 read-tables-requires c κs = search needs
 
 returns-5 : tie.Need-returns-5
-returns-5 c = let inside = not-outside _ _ _ (sym (c .before .before .outside .ensures) ∙ c .before .if4 .left) in (
-  c .read-tables .ensures .0 ∙ days-right (entry (c .before .before .before .before .before .before .before .before .before .before .before .args .factors .now)) (dueAt (c .before .before .before .before .before .before .before .before .before .before .before)) (c .before .before .before .before .before .before .before .before .before .before .before .args .s .now) (c .before .before .before .before .before .before .before .before .before .before .before .args .at) (c .before .before .before .before .before .before .before .before .before .begun .result) (c .before .before .before .before .before .before .before .before .before .begun .ensures .0) (c .before .before .before .before .before .before .before .before .if1 .left) (c .before .before .before .before .before .before .before .if2 .left) _ _ (read-due (c .before .before .before .before .before)) (c .before .before .before .before .field162 .ensures .0) refl _ (c .before .before .before .days-in-year .ensures) _ (c .before .before .outside .ensures) (c .before .if4 .left),
-  (c .read-tables .ensures .1, fits _ (c .before .before .before .before .before .before .before .before .before .before .before .args .s .now) (c .read-tables .result) _ _ _ _ _ _ (c .read-tables .ensures .0) (c .before .before .before .before .before .before .before .if2 .left) (rw (c .before .before .before .days-in-year .ensures) at (inside .most))),
-)
+returns-5 c =
+    let k = c .before .before in
+    let a = at-start k .args in
+    let right = days-right (entry (a .factors .now)) (dueAt (at-start k)) (a .s .now) (a .at) (at-begun k .begun .result) (at-begun k .begun .ensures .0) in
+    let at-days = right (some-left k .before .if1 .left) (some-left k .if2 .left) _ _ (read-due k) (k .before .before .field162 .ensures .0) refl in
+    let inside = not-outside _ _ _ (sym (k .outside .ensures) ∙ c .before .if4 .left) in
+    let most = rw (k .before .days-in-year .ensures) at (inside .most) in
+    let (says, tables) = c .read-tables .ensures in (
+      says ∙ at-days _ (k .before .days-in-year .ensures) _ (k .outside .ensures) (c .before .if4 .left),
+      (tables, fits _ (a .s .now) (c .read-tables .result) _ _ _ _ _ _ says (some-left k .if2 .left) most),
+    )
 
 pub read-year-spec : {M : Type 1} → statement M
 read-year-spec =
