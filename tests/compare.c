@@ -1,5 +1,6 @@
 /* Compares the proved reckoner with the plain one: the same number and the same bytes on dossiers sound, cut, padded and
- * spoilt; a thread stack of 64 KiB; and, on the longest dossier, no longer a time. The argument is another seed. */
+ * spoilt; a thread stack of 64 KiB; and, on the longest dossier, no longer a time. The argument is another seed; a second
+ * argument leaves the times out. */
 #define _POSIX_C_SOURCE 200809L
 #include "kh_am004.h"
 #include "plain.h"
@@ -237,6 +238,8 @@ int main(int argc, char **argv)
         if (!counts[k])
             fail("not every number came");
     on_small_stack();
+    if (argc > 2) /* bytes only, no times */
+        return 0;
     double proved = 1, plain = 1;
     for (int k = 0; k < 100; k++) {
         double a = seconds(kh_am004_reckon), b = seconds(plain_reckon);

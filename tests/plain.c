@@ -1,31 +1,17 @@
-/* A plain reckoner in C by document 01's steps. It is not proved: the tests compare with it, in bytes and in time.
- * Compiled with TUNED it is the benchmark's yardstick: byte-swapped loads, 64-bit products where they fit, and the
- * conversions weighed as they are read, without a branch. */
+/* A plain reckoner in C by document 01's steps. It is not proved: the tests compare with it, in bytes and in time. */
 #include "plain.h"
 #include <string.h>
 
 __extension__ typedef unsigned __int128 wide;
-#ifdef TUNED
-typedef uint64_t product; /* the areas add up to 10^12 at most, a factor is below 2^14, a probability at most 10^6 */
-#else
-typedef wide product;
-#endif
 
 static const unsigned stock[12] = { 9130, 13511, 5654, 4821, 0, 8415, 9240, 3986, 4265, 5654, 5654, 0 };
 static const unsigned lost[12] = { 24900, 30900, 0, 34500, 14100, 10000, 41700, 50600, 97200, 116900, 0, 0 };
 
 struct input { const uint8_t *s; size_t n, at; };
 
-static inline uint64_t field(struct input *in, int bytes)
+static uint64_t field(struct input *in, int bytes)
 {
     uint64_t v = 0;
-#ifdef TUNED
-    if (bytes == 8) {
-        memcpy(&v, in->s + in->at, 8);
-        in->at += 8;
-        return __builtin_bswap64(v);
-    }
-#endif
     while (bytes--)
         v = v << 8 | in->s[in->at++];
     return v;
@@ -49,7 +35,6 @@ static int begin(struct input *in, const char *mark, size_t bytes)
 }
 
 static uint64_t up(wide x, uint64_t by) { return (uint64_t)((x + by - 1) / by); }
-static uint64_t product_up(product x, uint64_t by) { return (uint64_t)((x + by - 1) / by); }
 
 /* a table of 64-bit numbers, and their sum */
 static int table(struct input *in, const char *mark, uint64_t *cell, int count, wide *sum)
@@ -96,7 +81,7 @@ static int activity(struct input *in, int before, uint64_t *grams)
         g = field(in, 8);
     if (kind < 1 || kind > 3 || g > 1000000000000)
         return -8;
-    *grams += m == 3 ? product_up((product)g * lime[kind - 1], 300) : product_up((product)g * fuel[kind - 1], 100000);
+    *grams += m == 3 ? up((wide)g * lime[kind - 1], 300) : up((wide)g * fuel[kind - 1], 100000);
     return 0;
 }
 
@@ -109,12 +94,12 @@ static unsigned factor(int i, int j)
 static wide project(uint64_t *area, uint64_t *balance, unsigned matrix[12][12], unsigned factors[12][12])
 {
     uint64_t next[12] = { 0 };
-    product carbon = 0;
+    wide carbon = 0;
     for (int i = 0; i < 12; i++) {
         uint64_t rest = area[i];
         for (int j = 0; j < 12; j++) {
-            uint64_t flow = (uint64_t)((product)area[i] * matrix[i][j] / 1000000);
-            carbon += (product)flow * factors[i][j];
+            uint64_t flow = (uint64_t)((wide)area[i] * matrix[i][j] / 1000000);
+            carbon += (wide)flow * factors[i][j];
             next[j] += flow;
             rest -= flow;
         }
@@ -127,21 +112,7 @@ static wide project(uint64_t *area, uint64_t *balance, unsigned matrix[12][12], 
 /* a table of conversions: their emissions; counted has the factors that count */
 static int monitored(struct input *in, const char *mark, wide start, unsigned counted[144], uint64_t *emitted)
 {
-    product carbon = 0;
-#ifdef TUNED
-    int fault = begin(in, mark, 8 * 144);
-    uint64_t sum = 0, any = 0;
-    if (fault)
-        return fault;
-    for (int k = 0; k < 144; k++) {
-        uint64_t cell = field(in, 8);
-        any |= cell;
-        sum += cell;
-        carbon += cell * counted[k];
-    }
-    if (any >> 40 || sum != start) /* 10^12 is below 2^40, so that no sum of sound cells wraps */
-        return 7;
-#else
+    wide carbon = 0;
     uint64_t cell[144];
     wide sum;
     int fault = table(in, mark, cell, 144, &sum);
@@ -150,9 +121,8 @@ static int monitored(struct input *in, const char *mark, wide start, unsigned co
     if (sum != start)
         return 7;
     for (int k = 0; k < 144; k++)
-        carbon += (product)cell[k] * counted[k];
-#endif
-    *emitted = product_up(carbon * 11, 300);
+        carbon += (wide)cell[k] * counted[k];
+    *emitted = up(carbon * 11, 300);
     return 0;
 }
 

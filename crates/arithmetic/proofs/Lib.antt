@@ -6,3 +6,4 @@ pub mod SignedLaws
 pub mod FractionLaws
 pub mod RatioLaws
 pub mod NearLaws
+pub mod StoreLaws

@@ -1,4 +1,5 @@
 pub mod Tests
+pub mod FillLaws
 pub mod MatrixLaws
 pub mod CalendarLaws
 pub mod FactorLaws

@@ -1,11 +1,12 @@
 // Units, land use classes and their constant tables, and the calendar.
 ghost use mathlib.Core.Path.{_≡_};
-ghost use Prim.Native.Nat.{_<_, _^_};
+ghost use Prim.Native.Nat.{_+_, _-_, _^_, _≤_, _<_};
+ghost use lib.ListN.{length};
 ghost use lib.IntN.{pos, _+ℤ_, _-ℤ_};
 ghost use mir.Syntax.{w64};
 ghost use mir.Val.{SFits};
 ghost use Rattle.classes.specs.Classes.{carbonStocks, emissionFactor};
-ghost use Rattle.classes.specs.Matrix.{tableOf, optionOneMatrix};
+ghost use Rattle.classes.specs.Matrix.{tableOf, withRow, optionOne, optionOneMatrix};
 ghost use Rattle.classes.specs.Calendar.{daysInYear};
 
 // An area, in millionths of a hectare.
@@ -18,11 +19,11 @@ pub struct CarbonUnits(pub u64);
 pub struct Grams(pub i64);
 
 // Tree plantation, pine plantation and non-forest: their places among the twelve classes.
-const TP: usize = 9;
+pub const TP: usize = 9;
 
-const PP: usize = 10;
+pub const PP: usize = 10;
 
-const NF: usize = 11;
+pub const NF: usize = 11;
 
 // Carbon stock by class, hundredths of tC per ha (document 001, table 1).
 const CARBON_STOCKS: [u64; 12] = [
@@ -55,6 +56,31 @@ const DEFORESTATION_PROBABILITIES: [u64; 12] = [
     0, // PP
     0, // NF
 ];
+
+impl AreaUnits {
+    pub fn plus(self, other: AreaUnits) -> AreaUnits
+        requires { ⌜ self .0 + other .0 < 2 ^ 64 ⌝ }
+        ensures { λ r. ⌜ r .0 ≡ self .0 + other .0 ⌝ }
+    {
+        AreaUnits(self.0 + other.0)
+    }
+
+    pub fn minus(self, other: AreaUnits) -> AreaUnits
+        requires { ⌜ other .0 ≤ self .0 ⌝ }
+        ensures { λ r. ⌜ r .0 ≡ self .0 - other .0 ⌝ }
+    {
+        AreaUnits(self.0 - other.0)
+    }
+}
+
+impl CarbonUnits {
+    pub fn plus(self, other: CarbonUnits) -> CarbonUnits
+        requires { ⌜ self .0 + other .0 < 2 ^ 64 ⌝ }
+        ensures { λ r. ⌜ r .0 ≡ self .0 + other .0 ⌝ }
+    {
+        CarbonUnits(self.0 + other.0)
+    }
+}
 
 impl Grams {
     // n grams.
@@ -104,33 +130,67 @@ fn emission_factor(stocks: &[u64; 12], i: usize, j: usize) -> u64
     if to < from { from - to } else { 0 }
 }
 
-// The emission factors of all pairs of classes.
-pub fn emission_factors(stocks: &[u64; 12]) -> [u64; 144]
-    ensures { λ r. ⌜ r ≡ tableOf (emissionFactor (now (stocks .entry))) ⌝ }
+// Stores the emission factors from class i as row i of a table.
+fn fill_factor_row(factors: &mut [u64; 144], stocks: &[u64; 12], i: usize)
+    requires { ⌜ i < 12 ⌝ }
+    ensures { λ _. ⌜ now (factors .exit) ≡ withRow (now (factors .entry)) i (emissionFactor (now (stocks .entry)) i) ⌝ }
 {
-    let mut factors = [0u64; 144];
-    let mut k: usize = 0;
-    while k < 144 {
-        factors[k] = emission_factor(stocks, k / 12, k % 12);
-        k += 1;
+    let mut j: usize = 0;
+    while j < 12 {
+        factors[12 * i + j] = emission_factor(stocks, i, j);
+        j += 1;
     }
-    factors
 }
 
-// Option 1's matrix, row by row: the diagonal after column NF, so that NF stays NF.
-pub fn option_one_matrix() -> [u64; 144]
-    ensures { λ r. ⌜ r ≡ optionOneMatrix ⌝ }
+// Fills a table with the emission factors of all pairs of classes.
+pub fn fill_factors(factors: &mut [u64; 144], stocks: &[u64; 12])
+    requires { ⌜ length (now factors) ≡ 144 ⌝ }
+    ensures { λ _. ⌜ now (factors .exit) ≡ tableOf (emissionFactor (now (stocks .entry))) ⌝ }
 {
-    let probabilities = DEFORESTATION_PROBABILITIES;
-    let mut matrix = [0u64; 144];
     let mut i: usize = 0;
     while i < 12 {
-        let p = probabilities[i];
-        matrix[12 * i + NF] = p;
-        matrix[12 * i + i] = 1000000 - p;
+        fill_factor_row(factors, stocks, i);
         i += 1;
     }
-    matrix
+}
+
+// Option 1's probability from class i to class j.
+fn option_one(i: usize, j: usize) -> u64
+    requires { ⌜ i < 12 ⌝ }
+    ensures { λ r. ⌜ r ≡ optionOne i j ⌝ }
+{
+    if j == i {
+        return 1_000_000 - DEFORESTATION_PROBABILITIES[i];
+    }
+    if j == NF {
+        DEFORESTATION_PROBABILITIES[i]
+    } else {
+        0
+    }
+}
+
+// Stores Option 1's probabilities from class i as row i of a matrix.
+fn fill_option_one_row(matrix: &mut [u64; 144], i: usize)
+    requires { ⌜ i < 12 ⌝ }
+    ensures { λ _. ⌜ now (matrix .exit) ≡ withRow (now (matrix .entry)) i (optionOne i) ⌝ }
+{
+    let mut j: usize = 0;
+    while j < 12 {
+        matrix[12 * i + j] = option_one(i, j);
+        j += 1;
+    }
+}
+
+// Fills a matrix with Option 1's probabilities.
+pub fn fill_option_one(matrix: &mut [u64; 144])
+    requires { ⌜ length (now matrix) ≡ 144 ⌝ }
+    ensures { λ _. ⌜ now (matrix .exit) ≡ optionOneMatrix ⌝ }
+{
+    let mut i: usize = 0;
+    while i < 12 {
+        fill_option_one_row(matrix, i);
+        i += 1;
+    }
 }
 
 // The days of a Gregorian year.

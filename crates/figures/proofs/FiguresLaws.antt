@@ -19,6 +19,11 @@ use Rattle.arithmetic.proofs.RoundingLaws.{ceilDiv-le}
 use Rattle.arithmetic.proofs.IntegerLaws.{mag-minus}
 use Rattle.classes.specs.Classes.{classes}
 use Rattle.classes.specs.Matrix.{entry}
+use Rattle.classes.specs.Calendar.{daysInYear}
+use Rattle.classes.proofs.CalendarLaws.{days-range}
+use Rattle.projection.specs.declared.Region.{Region}
+use Rattle.projection.specs.Projection.{areaTotal, projectedCarbon, SmallRegion, RowsWithin}
+use Rattle.projection.proofs.ProjectionLaws.{projected-carbon-le}
 use Rattle.figures.specs.declared.Figures.{Figures}
 use Rattle.figures.specs.declared.YearCarbon.{YearCarbon}
 use Rattle.figures.specs.Figures.{
@@ -31,7 +36,7 @@ use Rattle.figures.specs.Figures.{
   figuresOf,
   carbonFigures,
 }
-use Rattle.figures.specs.Ranges.{SmallCarbon, SmallYear, SmallTable, SmallGrams}
+use Rattle.figures.specs.Ranges.{SmallCarbon, SmallYear, SmallTable, SmallGrams, DaysOf}
 
 -- a number far within 64 bits fits them
 pub within : {z : ℤ} → mag z < 2 ^ 56 → SFits w64 z
@@ -48,11 +53,23 @@ monitored-small conversions factor small most =
     le-trans (sum2-le classes (λ i j. entry conversions i j * factor i j) (λ i j. entry conversions i j * 65535) (λ i j h h′. mul-le-mul-left (entry conversions i j) (most i j)))
     (le-trans (le-of-eq (sum2-mul classes (entry conversions) 65535)) (mul-le-mul-right 65535 (rw (sum-rows classes classes (λ k. getD conversions k 0)) at small)))
 
+-- the projected carbon of a small region is small
+pub projected-small : (region : Region) (matrix : List ℕ) (factor : ℕ → ℕ → ℕ) → SmallRegion region → RowsWithin matrix → ((i j : ℕ) → factor i j ≤ 65535)
+    → SmallCarbon (projectedCarbon factor (region .areas) matrix)
+projected-small region matrix factor small rows most =
+    let all : areaTotal (region .areas) ≤ 1000000000000 = omega arith in
+    le-trans (projected-carbon-le (region .areas) matrix rows factor 65535 most) (mul-le-mul-right 65535 all)
+
+-- the days of a year of the calendar
+pub calendar-days : (d year : ℕ) → d ≤ daysInYear year → DaysOf d (daysInYear year)
+calendar-days d year h = (h, omega (arith, days-range year), omega (arith, days-range year))
+
 -- ---- grams of a year's carbon
 module _ {carbon : ℕ} (small : SmallCarbon carbon) where
-  pub reference-small : {days yeardays : ℕ} → days ≤ yeardays → 0 < yeardays → SmallGrams (pos (referenceLevel carbon days yeardays))
+  pub reference-small : {d D : ℕ} → DaysOf d D → SmallGrams (pos (referenceLevel carbon d D))
   unfolding referenceLevel
-  reference-small {days} {yeardays} h positive = omega (arith, div-le-of-le-mul (300 * yeardays) {m = carbon * 11 * days} {n = 2402950000000000} (omega (arith, mul-le-mul small h)))
+  reference-small {d} {D} (h, positive, most) =
+      omega (arith, div-le-of-le-mul (300 * D) {m = carbon * 11 * d} {n = 2402950000000000} (omega (arith, mul-le-mul small h)))
 
   pub emissions-small : SmallGrams (pos (stockChangeEmissions carbon))
   unfolding stockChangeEmissions
@@ -118,9 +135,7 @@ figures-small reference project activity belt beltReference r p a b br =
     }
 
 -- those of a year's carbon and activity
-module _ (project belt : YearCarbon) (activity : ℤ) (days yeardays : ℕ) (p : SmallYear project) (b : SmallYear belt) (a : SmallGrams activity) (h : days ≤ yeardays) (positive : 0 < yeardays) where
-  pub year-small : FiguresSmall (carbonFigures project belt activity days yeardays)
-  year-small = figures-small _ _ activity _ _ (reference-small (p .0) h positive) (emissions-small (p .1)) a (emissions-small (b .1)) (reference-small (b .0) h positive)
-
-  pub credited-small : mag (carbonFigures project belt activity days yeardays .credited .0) < 2 ^ 56
-  credited-small = year-small .credited
+pub year-small : (project belt : YearCarbon) (activity : ℤ) (d D : ℕ) → SmallYear project → SmallYear belt → SmallGrams activity → DaysOf d D
+    → FiguresSmall (carbonFigures project belt activity d D)
+year-small project belt activity d D p b a days =
+    figures-small _ _ activity _ _ (reference-small (p .0) days) (emissions-small (p .1)) a (emissions-small (b .1)) (reference-small (b .0) days)

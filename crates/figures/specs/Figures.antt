@@ -43,7 +43,7 @@ creditedOf reduction = floorDiv (reduction *ℤ pos 4) 5
 
 -- tonnes = total ÷ 1,000,000, down; 0 for a negative total
 unfoldable pub tonnesOf : ℤ → ℕ
-tonnesOf (pos total) = total / 1000000
+tonnesOf (pos total) = total / 1_000_000
 tonnesOf (negsuc n) = 0
 
 -- the figures of a year not given yet
@@ -75,4 +75,5 @@ figuresOf reference project activity belt beltReference = record {
 -- those of d operating days of a year of D, from the carbon of project area and belt and the emissions of the activity records
 abbrev pub carbonFigures : (project belt : YearCarbon) → (activity : ℤ) → (d D : ℕ) → Figures
 carbonFigures project belt activity d D =
-    figuresOf (pos (referenceLevel (project .projected .0) d D)) (pos (stockChangeEmissions (project .monitored .0))) activity (pos (stockChangeEmissions (belt .monitored .0))) (pos (referenceLevel (belt .projected .0) d D))
+    figuresOf (pos (referenceLevel (project .projected .0) d D)) (pos (stockChangeEmissions (project .monitored .0))) activity
+    (pos (stockChangeEmissions (belt .monitored .0))) (pos (referenceLevel (belt .projected .0) d D))

@@ -4,18 +4,16 @@ use classes::CarbonUnits;
 use classes::Grams;
 use projection::Region;
 ghost use mathlib.Core.Path.{_≡_};
-ghost use Prim.Native.Nat.{_^_, _≤_, _<_};
+ghost use Prim.Native.Nat.{_^_, _<_};
 ghost use mathlib.Core.Bool.{cond};
 ghost use lib.Dec.{eqb};
+ghost use lib.ListN.{length};
 ghost use lib.IntN.{pos, negsuc};
 ghost use lib.Signed.{mag};
-ghost use Rattle.classes.specs.Classes.{NF};
-ghost use Rattle.classes.specs.Matrix.{entry, tableOf};
+ghost use Rattle.classes.specs.Classes.{NF, emissionFactor};
+ghost use Rattle.classes.specs.Matrix.{entry, tableOf, withRow};
 ghost use Rattle.figures.specs.Figures.{referenceLevel, countedFactor, stockChangeEmissions, displacedEmissions, creditedOf, tonnesOf, noFigures, carbonFigures};
-ghost use Rattle.figures.specs.Ranges.{SmallCarbon, SmallYear, SmallGrams};
-
-// The place of class NF.
-const NON_FOREST: usize = 11;
+ghost use Rattle.figures.specs.Ranges.{SmallCarbon, SmallYear, SmallGrams, DaysOf};
 
 // What an opening settles and no year changes: the option, the carbon stocks and the matrix in use, and the starting areas of project and belt.
 pub struct Terms {
@@ -69,34 +67,60 @@ pub struct YearCarbon {
     pub monitored: CarbonUnits,
 }
 
-// The emission factors that count for monitored conversions: under Option 1 only those into NF.
-pub fn counted_factors(option: u64, factors: &[u64; 144]) -> [u64; 144]
-    ensures { λ r. ⌜ r ≡ tableOf (countedFactor option (entry (now (factors .entry)))) ⌝ }
-{
-    let mut counted = [0u64; 144];
-    let mut k: usize = 0;
-    while k < 144 {
-        counted[k] = counted_factor(option, factors[k], k % 12);
-        k += 1;
-    }
-    counted
-}
-
-// A factor into class j, if it counts.
+// A factor into class j, if it counts for monitored conversions.
 fn counted_factor(option: u64, factor: u64, j: usize) -> u64
     ensures { λ r. ⌜ r ≡ cond (eqb option 1) (cond (eqb j NF) factor 0) factor ⌝ }
 {
     if option == 1 {
-        if j == NON_FOREST { factor } else { 0 }
+        if j == classes::NF { factor } else { 0 }
     } else {
         factor
     }
 }
 
+// Stores the factors from class i that count as row i of a table.
+fn fill_counted_row(counted: &mut [u64; 144], factors: &[u64; 144], option: u64, i: usize)
+    requires { ⌜ i < 12 ⌝ }
+    ensures { λ _. ⌜ now (counted .exit) ≡ withRow (now (counted .entry)) i (countedFactor option (entry (now (factors .entry))) i) ⌝ }
+{
+    let mut j: usize = 0;
+    while j < 12 {
+        counted[12 * i + j] = counted_factor(option, factors[12 * i + j], j);
+        j += 1;
+    }
+}
+
+// Fills a table with the factors that count: under Option 1 only those into NF.
+fn fill_counted(counted: &mut [u64; 144], factors: &[u64; 144], option: u64)
+    requires { ⌜ length (now counted) ≡ 144 ⌝ }
+    ensures { λ _. ⌜ now (counted .exit) ≡ tableOf (countedFactor option (entry (now (factors .entry)))) ⌝ }
+{
+    let mut i: usize = 0;
+    while i < 12 {
+        fill_counted_row(counted, factors, option, i);
+        i += 1;
+    }
+}
+
+// Fills both tables of factors: the emission factors, for the projection, and those that count for monitored conversions.
+pub fn fill_factors(
+    factors: &mut [u64; 144],
+    counted: &mut [u64; 144],
+    stocks: &[u64; 12],
+    option: u64,
+)
+    requires { ⌜ (length (now factors) ≡ 144) × (length (now counted) ≡ 144) ⌝ }
+    ensures { λ _. ⌜ now (factors .exit) ≡ tableOf (emissionFactor (now (stocks .entry))) ⌝ }
+    ensures { λ _. ⌜ now (counted .exit) ≡ tableOf (countedFactor option (emissionFactor (now (stocks .entry)))) ⌝ }
+{
+    classes::fill_factors(factors, stocks);
+    fill_counted(counted, factors, option);
+}
+
 // The reference level for d = days of D = yeardays. Carbon × 11 × d passes 64 bits, so the quotient of the carbon by the divisor and its remainder are weighed apart.
 fn reference_level(carbon: CarbonUnits, days: u64, yeardays: u64) -> Grams
     requires { ⌜ SmallCarbon (carbon .0) ⌝ }
-    requires { ⌜ (days ≤ yeardays) × (0 < yeardays) × (yeardays ≤ 366) ⌝ }
+    requires { ⌜ DaysOf days yeardays ⌝ }
     ensures { λ r. ⌜ r .0 ≡ pos (referenceLevel (carbon .0) days yeardays) ⌝ }
 {
     let weight = 11 * days;
@@ -152,7 +176,7 @@ pub fn tonnes(total: Grams) -> u64
     if total.0 < 0 {
         return 0;
     }
-    arithmetic::magnitude(total.0) / 1000000
+    arithmetic::magnitude(total.0) / 1_000_000
 }
 
 // The figures of a year, from the carbon of the project area and of the belt and the emissions of the activity records.
@@ -164,7 +188,7 @@ pub fn year_figures(
     yeardays: u64,
 ) -> Figures
     requires { ⌜ (SmallYear project) × (SmallYear belt) × (SmallGrams (activity .0)) ⌝ }
-    requires { ⌜ (days ≤ yeardays) × (0 < yeardays) × (yeardays ≤ 366) ⌝ }
+    requires { ⌜ DaysOf days yeardays ⌝ }
     ensures { λ r. ⌜ r ≡ carbonFigures project belt (activity .0) days yeardays ⌝ }
 {
     let reference = reference_level(project.projected, days, yeardays);

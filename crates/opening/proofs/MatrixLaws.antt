@@ -10,10 +10,11 @@ use lib.ListN.{length, drop}
 use lib.Seq.{drop-drop, sets}
 use Rattle.arithmetic.specs.Sum.{sum}
 use Rattle.arithmetic.proofs.SumLaws.{sum-cong}
+use Rattle.arithmetic.proofs.StoreLaws.{stored-next, all-stored}
 use Rattle.classes.specs.Classes.{classes}
 use Rattle.classes.specs.Matrix.{entry, million, optionOneMatrix}
 use Rattle.wire.specs.Bytes.{numbers, total, fieldAt}
-use Rattle.wire.proofs.BytesLaws.{length-numbers}
+use Rattle.wire.proofs.BytesLaws.{length-numbers, getD-numbers}
 use Rattle.dossier.specs.Marks.{MP}
 use Rattle.dossier.specs.Records.{matrixInUse}
 use Rattle.dossier.specs.Reader.{Judged, refused, accepted, _>>=_, _>>_, give, begin}
@@ -23,16 +24,11 @@ use Rattle.dossier.proofs.LoopLaws.{numbers-add, total-entries, rows-wrong}
 use Rattle.cursor.specs.Answers.{begunSays}
 use Rattle.cursor.proofs.AtLaws.{begun-no, begun-yes, fields-is}
 use Rattle.opening.specs.declared.MatrixAnswer.{MatrixAnswer}
-use Rattle.opening.specs.declared.Matrix.{Matrix}
-use Rattle.opening.specs.Answers.{noMatrix, matrixJudged, matrixSays, matrixFacts, matrixInside, matrixOf, matrixUnderJudged, matrixUnderFacts}
-use Rattle.opening.proofs.NumbersLaws.{getD-numbers, stored-next, all-stored}
+use Rattle.opening.specs.Answers.{matrixJudged, matrixFacts, matrixOf, matrixUnderJudged, matrixUnderFacts}
 
 -- the first i rows of MP at a place have the right sum
 abbrev pub RowsRight : List ℕ → ℕ → ℕ → Type 0
 RowsRight s at i = rows i (numbers 144 4 (drop (at + 2) s)) (drop (at + 578) s) ≡ accepted tt (drop (at + 578) s)
-
-pub matrix-refused : (s : List ℕ) (r : Matrix) (n : ℕ) (j : Judged (List ℕ)) → r ≡ noMatrix n → refused n ≡ j → (matrixSays s r ≡ j) × matrixInside s r
-matrix-refused s r n j e q = rw e (q, tt)
 
 -- ---- a matrix stored row by row
 pub next-row : (l m n s : List ℕ) (at i : ℕ) → m ≡ sets l 0 (numbers (12 * i) 4 (drop at s)) → n ≡ sets m (12 * i) (numbers 12 4 (drop (at + 48 * i) s)) → n ≡ sets l 0 (numbers (12 * suc i) 4 (drop at s))

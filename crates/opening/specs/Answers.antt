@@ -19,7 +19,6 @@ use Rattle.opening.specs.declared.HeadAnswer.{HeadAnswer}
 use Rattle.opening.specs.declared.AreasAnswer.{AreasAnswer}
 use Rattle.opening.specs.declared.Areas.{Areas}
 use Rattle.opening.specs.declared.MatrixAnswer.{MatrixAnswer}
-use Rattle.opening.specs.declared.Matrix.{Matrix}
 use Rattle.opening.specs.declared.OpeningAnswer.{OpeningAnswer}
 use Rattle.opening.specs.declared.Opened.{Opened}
 
@@ -61,22 +60,13 @@ abbrev pub areasInside : List ℕ → Areas → Type 0
 areasInside s r = areasFacts s (r .areas) (r .answer)
 
 -- ---- MP
-abbrev pub noMatrix : ℕ → Matrix
-noMatrix n = record { answer = MatrixAnswer.Refused n; matrix = replicate 144 0 }
-
 abbrev pub matrixJudged : List ℕ → List ℕ → MatrixAnswer → Judged (List ℕ)
 matrixJudged s matrix (MatrixAnswer.Read next) = accepted matrix (drop next s)
 matrixJudged s matrix (MatrixAnswer.Refused n) = refused n
 
-abbrev pub matrixSays : List ℕ → Matrix → Judged (List ℕ)
-matrixSays s r = matrixJudged s (r .matrix) (r .answer)
-
 abbrev pub matrixFacts : List ℕ → MatrixAnswer → Type 0
 matrixFacts s (MatrixAnswer.Read next) = next ≤ length s
 matrixFacts s (MatrixAnswer.Refused n) = Unit {0}
-
-abbrev pub matrixInside : List ℕ → Matrix → Type 0
-matrixInside s r = matrixFacts s (r .answer)
 
 -- ---- MP under the options: its matrix under Option 2, none under Option 1
 abbrev pub matrixOf : ℕ → List ℕ → Option (List ℕ)
@@ -86,16 +76,10 @@ abbrev pub matrixUnderJudged : ℕ → List ℕ → List ℕ → MatrixAnswer �
 matrixUnderJudged option s matrix (MatrixAnswer.Read next) = accepted (matrixOf option matrix) (drop next s)
 matrixUnderJudged option s matrix (MatrixAnswer.Refused n) = refused n
 
-abbrev pub matrixUnderSays : ℕ → List ℕ → Matrix → Judged (Option (List ℕ))
-matrixUnderSays option s r = matrixUnderJudged option s (r .matrix) (r .answer)
-
 -- the next record begins inside, and the matrix held is the one in use
 abbrev pub matrixUnderFacts : ℕ → List ℕ → List ℕ → MatrixAnswer → Type 0
 matrixUnderFacts option s matrix (MatrixAnswer.Read next) = (next ≤ length s) × (matrix ≡ matrixInUse (matrixOf option matrix))
 matrixUnderFacts option s matrix (MatrixAnswer.Refused n) = Unit {0}
-
-abbrev pub matrixUnderInside : ℕ → List ℕ → Matrix → Type 0
-matrixUnderInside option s r = matrixUnderFacts option s (r .matrix) (r .answer)
 
 -- ---- HD to MP: terms and state stand beside the answer, all zeros where it is a refusal
 abbrev pub noOpening : ℕ → Opened

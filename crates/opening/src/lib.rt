@@ -11,8 +11,8 @@ ghost use lib.Seq.{sets};
 ghost use Rattle.projection.specs.Projection.{openedRegion};
 ghost use Rattle.wire.specs.Bytes.{numbers, total};
 ghost use Rattle.dossier.specs.JudgingRecords.{head, areas as judgedAreas, matrix as judgedMatrix, matrixUnder};
-ghost use Rattle.opening.specs.Answers.{headFields, headSays, headInside, amounts, noAreas, areasSays, areasInside, noMatrix, matrixSays, matrixInside};
-ghost use Rattle.opening.specs.Answers.{matrixUnderSays, matrixUnderInside, noOpening, openedSays, openedInside, settledOpening, settledPiece, fromBelt, fromAreas};
+ghost use Rattle.opening.specs.Answers.{headFields, headSays, headInside, amounts, noAreas, areasSays, areasInside, matrixJudged, matrixFacts};
+ghost use Rattle.opening.specs.Answers.{matrixUnderJudged, matrixUnderFacts, noOpening, openedSays, openedInside, settledOpening, settledPiece, fromBelt, fromAreas};
 
 const HD: u64 = 0x4844;
 
@@ -49,12 +49,6 @@ struct Areas {
 enum MatrixAnswer {
     Read(usize),
     Refused(u8),
-}
-
-// A matrix with the answer; all zero where it is a refusal.
-struct Matrix {
-    answer: MatrixAnswer,
-    matrix: [u64; 144],
 }
 
 pub enum OpeningAnswer {
@@ -144,15 +138,6 @@ fn read_areas(s: &[u8], at: usize, m: u64, least: u64) -> Areas
     }
 }
 
-fn no_matrix(n: u8) -> Matrix
-    ensures { λ r. ⌜ r ≡ noMatrix n ⌝ }
-{
-    Matrix {
-        answer: MatrixAnswer::Refused(n),
-        matrix: [0u64; 144],
-    }
-}
-
 // Stores twelve numbers of 32 bits from at as row i of a matrix; their sum.
 fn fill_row(matrix: &mut [u64; 144], i: usize, s: &[u8], at: usize) -> u64
     requires { ⌜ (i < 12) × (at + 48 ≤ length (now s)) ⌝ }
@@ -170,43 +155,39 @@ fn fill_row(matrix: &mut [u64; 144], i: usize, s: &[u8], at: usize) -> u64
     sum
 }
 
-// MP from at: the matrix filled row by row, each row tested.
-fn read_matrix(s: &[u8], at: usize) -> Matrix
+// MP from at: the lent matrix filled row by row, each row tested. A refusal leaves it partly filled.
+fn read_matrix(s: &[u8], at: usize, matrix: &mut [u64; 144]) -> MatrixAnswer
     requires { ⌜ at ≤ length (now s) ⌝ }
-    ensures { λ r. ⌜ matrixSays (now (s .entry)) r ≡ judgedMatrix (drop at (now (s .entry))) ⌝ }
-    ensures { λ r. ⌜ matrixInside (now (s .entry)) r ⌝ }
+    requires { ⌜ length (now matrix) ≡ 144 ⌝ }
+    ensures { λ r. ⌜ matrixJudged (now (s .entry)) (now (matrix .exit)) r ≡ judgedMatrix (drop at (now (s .entry))) ⌝ }
+    ensures { λ r. ⌜ matrixFacts (now (s .entry)) r ⌝ }
 {
     let fault = cursor::begun(s, at, MP, 576);
     if fault != 0 {
-        return no_matrix(fault);
+        return MatrixAnswer::Refused(fault);
     }
-    let mut matrix = [0u64; 144];
     let mut i: usize = 0;
     while i < 12 {
-        if fill_row(&mut matrix, i, s, at + 2 + 48 * i) != 1000000 {
-            return no_matrix(5);
+        if fill_row(matrix, i, s, at + 2 + 48 * i) != 1000000 {
+            return MatrixAnswer::Refused(5);
         }
         i += 1;
     }
-    Matrix {
-        answer: MatrixAnswer::Read(at + 578),
-        matrix,
-    }
+    MatrixAnswer::Read(at + 578)
 }
 
-// The matrix in use from at: MP under Option 2, table 4's under Option 1.
-fn read_matrix_under(s: &[u8], at: usize, option: u64) -> Matrix
+// The matrix in use from at, stored in the lent one: MP under Option 2, table 4's under Option 1.
+fn read_matrix_under(s: &[u8], at: usize, option: u64, matrix: &mut [u64; 144]) -> MatrixAnswer
     requires { ⌜ at ≤ length (now s) ⌝ }
-    ensures { λ r. ⌜ matrixUnderSays option (now (s .entry)) r ≡ matrixUnder option (drop at (now (s .entry))) ⌝ }
-    ensures { λ r. ⌜ matrixUnderInside option (now (s .entry)) r ⌝ }
+    requires { ⌜ length (now matrix) ≡ 144 ⌝ }
+    ensures { λ r. ⌜ matrixUnderJudged option (now (s .entry)) (now (matrix .exit)) r ≡ matrixUnder option (drop at (now (s .entry))) ⌝ }
+    ensures { λ r. ⌜ matrixUnderFacts option (now (s .entry)) (now (matrix .exit)) r ⌝ }
 {
     if option == 2 {
-        return read_matrix(s, at);
+        return read_matrix(s, at, matrix);
     }
-    Matrix {
-        answer: MatrixAnswer::Read(at),
-        matrix: classes::option_one_matrix(),
-    }
+    classes::fill_option_one(matrix);
+    MatrixAnswer::Read(at)
 }
 
 // A region with these areas at inception.
@@ -258,9 +239,8 @@ fn with_belt(s: &[u8], at: usize, h: Head, start: AreaUnits, areas: [AreaUnits; 
             sum: beltstart,
             next,
         } => {
-            let m = read_matrix_under(s, next, h.option);
-            let answer = m.answer;
-            let matrix = m.matrix;
+            let mut matrix = [0u64; 144];
+            let answer = read_matrix_under(s, next, h.option, &mut matrix);
             match answer {
                 MatrixAnswer::Refused(n) => no_opening(n),
                 MatrixAnswer::Read(next) => {

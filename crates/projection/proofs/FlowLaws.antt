@@ -54,7 +54,8 @@ module _ (k q : ℕ) (q-pos : 0 < q) (A : ℕ → ℕ) (p : ℕ → ℕ → ℕ)
   loss-le k-pos rows = omega (arith, sum-const k (k - 1), sum-le k loss (λ i. k - 1) (λ i h. omega (arith, loss-lt k q q-pos (A i) (p i) (rows i h) k-pos)))
 
 -- ---- the year side by side with unrounded areas a over n, none below its rounded area
-module _ (k q : ℕ) (q-pos : 0 < q) (A : ℕ → ℕ) (p : ℕ → ℕ → ℕ) (rows : (i : ℕ) → i < k → sum k (p i) ≡ q) (n : ℕ) (a : ℕ → ℕ) (below : (i : ℕ) → i < k → A i * n ≤ a i) where
+module _ (k q : ℕ) (q-pos : 0 < q) (A : ℕ → ℕ) (p : ℕ → ℕ → ℕ) (rows : (i : ℕ) → i < k → sum k (p i) ≡ q) (n : ℕ) (a : ℕ → ℕ)
+    (below : (i : ℕ) → i < k → A i * n ≤ a i) where
   flow-below : (i j : ℕ) → i < k → A i * p i j / q * (n * q) ≤ a i * p i j
   flow-below i j h = omega (arith, mul-le-mul-right n (div-mul-le-self (A i * p i j) q), mul-le-mul-right (p i j) (below i h))
 
@@ -63,7 +64,10 @@ module _ (k q : ℕ) (q-pos : 0 < q) (A : ℕ → ℕ) (p : ℕ → ℕ → ℕ)
 
   -- the unrounded areas keep their total
   pub next-total : sum k (λ j. sum k (λ i. a i * p i j)) ≡ sum k a * q
-  next-total = sum-swap k k (λ j i. a i * p i j) ∙ sum-cong k (λ i. sum k (λ j. a i * p i j)) (λ i. a i * q) (λ i h. spread k q q-pos (a i) (p i) ∙ omega (arith, ap (λ (s : ℕ). s * a i) (rows i h))) ∙ sum-mul k a q
+  next-total =
+      sum-swap k k (λ j i. a i * p i j)
+      ∙ sum-cong k (λ i. sum k (λ j. a i * p i j)) (λ i. a i * q) (λ i h. spread k q q-pos (a i) (p i) ∙ omega (arith, ap (λ (s : ℕ). s * a i) (rows i h)))
+      ∙ sum-mul k a q
 
   -- carbon by factors of at most F: never above the unrounded one, and short of it by at most F for each unit of area that rounding has lost so far
   module _ (F : ℕ) (factor : ℕ → ℕ → ℕ) (factor-le : (i j : ℕ) → factor i j ≤ F) where

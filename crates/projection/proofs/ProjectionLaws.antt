@@ -9,8 +9,9 @@ use Rattle.arithmetic.specs.Sum.{sum}
 use Rattle.arithmetic.proofs.SumLaws.{sum-cong, sum-le, sum-mul, sum-part, sum-next, sum-swap, term-le, getD-listed}
 use Rattle.classes.specs.declared.AreaUnits.{AreaUnits}
 use Rattle.classes.specs.Classes.{classes}
-use Rattle.classes.specs.Matrix.{entry, million}
-use Rattle.projection.specs.Projection.{area, areaTotal, flow, nextArea, nextAreas, inflowCarbon, projectedCarbon, lostArea, RowsWithin}
+use Rattle.classes.specs.Matrix.{entry, tableOf, million}
+use Rattle.classes.proofs.FactorLaws.{table-le}
+use Rattle.projection.specs.Projection.{area, areaTotal, flow, nextArea, nextAreas, inflowCarbon, projectedCarbon, lostArea, RowsWithin, FactorsFit}
 use Rattle.projection.proofs.FlowLaws as F
 
 pub million-pos : 0 < million
@@ -27,6 +28,13 @@ next-total areas matrix = sum-cong classes (area (nextAreas areas matrix)) (next
 pub carbon-columns : (factor : ℕ → ℕ → ℕ) (areas : List AreaUnits) (matrix : List ℕ) → sum classes (inflowCarbon factor areas matrix) ≡ projectedCarbon factor areas matrix
 unfolding inflowCarbon projectedCarbon
 carbon-columns factor areas matrix = sum-swap classes classes (λ j i. flow areas matrix i j * factor i j)
+
+-- factors of 16 bits
+pub fitting-le : (factors : List ℕ) → FactorsFit factors → (i j : ℕ) → entry factors i j ≤ 65535
+fitting-le factors fit i j = omega (arith, fit (12 * i + j))
+
+pub table-fits : (factor : ℕ → ℕ → ℕ) → ((i j : ℕ) → factor i j ≤ 65535) → FactorsFit (tableOf factor)
+table-fits factor h k = omega (arith, table-le factor 65535 h k)
 
 module _ (areas : List AreaUnits) (matrix : List ℕ) (rows : RowsWithin matrix) where
   -- the areas after the year and what rounding lost make up the areas before it

@@ -54,9 +54,13 @@ projectedYear factor matrix region = record { region = projectedRegion matrix re
 
 -- ---- ranges in which every sum and product fits 64 bits
 
--- all of a region's area is at most 10^12 units
+-- document 01: "Each total is at most 10^12"
+abbrev pub SmallArea : ℕ → Type 0
+SmallArea area = area ≤ 1_000_000_000_000
+
+-- with what rounding lost
 abbrev pub SmallRegion : Region → Type 0
-SmallRegion region = areaTotal (region .areas) + region .balance .0 ≤ 1000000000000
+SmallRegion region = SmallArea (areaTotal (region .areas) + region .balance .0)
 
 -- no row of a matrix sums to more than 1,000,000
 abbrev pub RowsWithin : List ℕ → Type 0

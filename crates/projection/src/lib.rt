@@ -3,8 +3,8 @@ use classes::AreaUnits;
 use classes::CarbonUnits;
 ghost use mathlib.Core.Path.{_≡_};
 ghost use Prim.Native.Nat.{_*_, _/_, _≤_, _<_};
-ghost use Rattle.classes.specs.Matrix.{entry};
-ghost use Rattle.projection.specs.Projection.{areaTotal, nextArea, projectedYear, SmallRegion, RowsWithin, FactorsFit};
+ghost use Rattle.classes.specs.Matrix.{entry, million};
+ghost use Rattle.projection.specs.Projection.{areaTotal, nextArea, projectedYear, SmallArea, SmallRegion, RowsWithin, FactorsFit};
 ghost use Rattle.projection.specs.Projection.{inflowCarbon};
 
 // The twelve areas of a region by class, and its balance: the area that rounding lost so far.
@@ -27,15 +27,15 @@ struct Inflow {
 
 // The flow of an area at a probability in millionths, rounded down.
 fn flow(area: AreaUnits, probability: u64) -> AreaUnits
-    requires { ⌜ (area .0 ≤ 1000000000000) × (probability ≤ 1000000) ⌝ }
-    ensures { λ r. ⌜ r .0 ≡ area .0 * probability / 1000000 ⌝ }
+    requires { ⌜ SmallArea (area .0) × (probability ≤ million) ⌝ }
+    ensures { λ r. ⌜ r .0 ≡ area .0 * probability / million ⌝ }
 {
-    AreaUnits(area.0 * probability / 1000000)
+    AreaUnits(area.0 * probability / 1_000_000)
 }
 
 // The carbon that an area sets free by an emission factor.
 pub fn released(area: AreaUnits, factor: u64) -> CarbonUnits
-    requires { ⌜ (area .0 ≤ 1000000000000) × (factor < 65536) ⌝ }
+    requires { ⌜ SmallArea (area .0) × (factor < 65536) ⌝ }
     ensures { λ r. ⌜ r .0 ≡ area .0 * factor ⌝ }
 {
     CarbonUnits(area.0 * factor)
@@ -43,41 +43,36 @@ pub fn released(area: AreaUnits, factor: u64) -> CarbonUnits
 
 // The flows into class j.
 fn flows_into(areas: [AreaUnits; 12], matrix: &[u64; 144], factors: &[u64; 144], j: usize) -> Inflow
-    requires { ⌜ areaTotal areas ≤ 1000000000000 ⌝ }
+    requires { ⌜ SmallArea (areaTotal areas) ⌝ }
     requires { ⌜ RowsWithin (now matrix) ⌝ }
     requires { ⌜ FactorsFit (now factors) ⌝ }
     requires { ⌜ j < 12 ⌝ }
     ensures { λ r. ⌜ (r .area .0 ≡ nextArea areas (now (matrix .entry)) j) × (r .carbon .0 ≡ inflowCarbon (entry (now (factors .entry))) areas (now (matrix .entry)) j) ⌝ }
 {
-    let mut area: u64 = 0;
-    let mut carbon: u64 = 0;
+    let mut area = AreaUnits(0);
+    let mut carbon = CarbonUnits(0);
     let mut i: usize = 0;
     while i < 12 {
-        let f = flow(areas[i], matrix[12 * i + j]);
-        area = area + f.0;
-        let c = released(f, factors[12 * i + j]);
-        carbon = carbon + c.0;
+        let flowing = flow(areas[i], matrix[12 * i + j]);
+        area = area.plus(flowing);
+        carbon = carbon.plus(released(flowing, factors[12 * i + j]));
         i += 1;
     }
-    Inflow {
-        area: AreaUnits(area),
-        carbon: CarbonUnits(carbon),
-    }
+    Inflow { area, carbon }
 }
 
 // The total of twelve areas.
 fn area_total(areas: [AreaUnits; 12]) -> AreaUnits
-    requires { ⌜ areaTotal areas ≤ 1000000000000 ⌝ }
+    requires { ⌜ SmallArea (areaTotal areas) ⌝ }
     ensures { λ r. ⌜ r .0 ≡ areaTotal areas ⌝ }
 {
-    let mut total: u64 = 0;
+    let mut total = AreaUnits(0);
     let mut i: usize = 0;
     while i < 12 {
-        let a = areas[i];
-        total = total + a.0;
+        total = total.plus(areas[i]);
         i += 1;
     }
-    AreaUnits(total)
+    total
 }
 
 impl Region {
@@ -90,25 +85,23 @@ impl Region {
     {
         let areas = self.areas;
         let mut next = [AreaUnits(0); 12];
-        let mut carbon: u64 = 0;
+        let mut carbon = CarbonUnits(0);
         let mut j: usize = 0;
         while j < 12 {
             let column = flows_into(areas, matrix, factors, j);
             let area = column.area;
-            let released = column.carbon;
             next[j] = area;
-            carbon = carbon + released.0;
+            carbon = carbon.plus(column.carbon);
             j += 1;
         }
-        let before = area_total(areas);
-        let after = area_total(next);
-        let lost = before.0 - after.0;
+        let lost = area_total(areas).minus(area_total(next));
+        let balance = self.balance.plus(lost);
         Projected {
             region: Region {
                 areas: next,
-                balance: AreaUnits(self.balance.0 + lost),
+                balance,
             },
-            carbon: CarbonUnits(carbon),
+            carbon,
         }
     }
 }

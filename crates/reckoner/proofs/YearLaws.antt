@@ -3,7 +3,7 @@
 use mathlib.Core.Path.{_≡_, refl, _∙_, ap, sym}
 use mathlib.Core.Bool.{Bool, true, false, cond}
 use mathlib.Core.List.{List}
-use Prim.Native.Nat.{ℕ, _+_, _*_, _≤_}
+use Prim.Native.Nat.{ℕ, _≤_}
 use native.Mathlib.Omega.{arith}
 use lib.Dec.{eqb}
 use lib.ListN.{length, drop, getD}
@@ -11,12 +11,12 @@ use borrow.Author.Tests.{eqb-false}
 use Rattle.wire.specs.Bytes.{Bytes}
 use Rattle.classes.specs.Classes.{emissionFactor}
 use Rattle.classes.specs.Matrix.{entry, tableOf}
-use Rattle.classes.proofs.FactorLaws.{factor-le, table-le}
 use Rattle.projection.specs.Projection.{FactorsFit}
 use Rattle.figures.specs.declared.Terms.{Terms}
 use Rattle.figures.specs.declared.State.{State}
 use Rattle.figures.specs.Year.{Year}
 use Rattle.figures.specs.Figures.{countedFactor}
+use Rattle.figures.proofs.CountedLaws.{factors-fit, counted-fit}
 use Rattle.dossier.specs.Records.{Due}
 use Rattle.dossier.specs.Reader.{refused, accepted, after, _>>=_, _>>_, give, endOfPiece}
 use Rattle.dossier.specs.Judging.{noneLeft, yearRecords, yearLeft, year, yearPiece}
@@ -32,25 +32,15 @@ use Rattle.reckoner.specs.declared.Answer.{Answer}
 use Rattle.reckoner.specs.declared.Step.{Step}
 use Rattle.reckoner.specs.Ledger.{dueOf, withAdvanced, givenYear}
 use Rattle.reckoner.specs.Calls.{yearJudged, yearCall, HandedBack, given}
-use Rattle.reckoner.proofs.YearRanges.{counted-le}
 
 -- the tables of emission factors, of projected and of monitored conversions, that the terms give
 pub record Tables (t : Terms) (factors counted : List ℕ) : Type 0 where
   pub of-factors : factors ≡ tableOf (emissionFactor (t .stocks))
-  pub of-counted : counted ≡ tableOf (countedFactor (t .option) (entry factors))
+  pub of-counted : counted ≡ tableOf (countedFactor (t .option) (emissionFactor (t .stocks)))
 
--- ---- they fit 16 bits
-module _ {t : Terms} {factors counted : List ℕ} (w : Tables t factors counted) (stocks : (i : ℕ) → getD (t .stocks) i 0 ≤ 65535) where
-  pub factors-fit : FactorsFit factors
-  factors-fit k =
-      let l : getD factors k 0 ≤ 65535 = rw (w .of-factors) (table-le (emissionFactor (t .stocks)) 65535 (factor-le (t .stocks) 65535 stocks) k) in
-      omega arith
-
-  pub counted-fit : FactorsFit counted
-  counted-fit k =
-      let f = counted-le (t .option) 65535 (entry factors) (λ i j. omega (arith, factors-fit (12 * i + j))) in
-      let l : getD counted k 0 ≤ 65535 = rw (w .of-counted) (table-le (countedFactor (t .option) (entry factors)) 65535 f k) in
-      omega arith
+-- they fit 16 bits, as the stocks do
+pub tables-fit : {t : Terms} {factors counted : List ℕ} → Tables t factors counted → ((i : ℕ) → getD (t .stocks) i 0 ≤ 65535) → FactorsFit factors × FactorsFit counted
+tables-fit {t} w stocks = (rw (w .of-factors) (factors-fit (t .stocks) stocks), rw (w .of-counted) (counted-fit (t .stocks) stocks (t .option)))
 
 -- no year is accepted where none is left
 left-for : (due : Due) (s : List ℕ) → Bytes s → (y : Year) (u : List ℕ) → year due s ≡ accepted y u → 1 ≤ due .state .left

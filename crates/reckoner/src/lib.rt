@@ -101,8 +101,9 @@ fn give_years(s: &[u8], from: usize, mut ledger: Ledger) -> Step
     let beltstart = terms.beltstart;
     let matrix = terms.matrix;
     let stocks = terms.stocks;
-    let factors = classes::emission_factors(&stocks);
-    let counted = figures::counted_factors(terms.option, &factors);
+    let mut factors = [0u64; 144];
+    let mut counted = [0u64; 144];
+    figures::fill_factors(&mut factors, &mut counted, &stocks, terms.option);
     let opened = ledger.state;
     let years = opened.left;
     let mut at = from;
@@ -165,8 +166,9 @@ impl Ledger {
         let state = self.state;
         let matrix = terms.matrix;
         let stocks = terms.stocks;
-        let factors = classes::emission_factors(&stocks);
-        let counted = figures::counted_factors(terms.option, &factors);
+        let mut factors = [0u64; 144];
+        let mut counted = [0u64; 144];
+        figures::fill_factors(&mut factors, &mut counted, &stocks, terms.option);
         let start = terms.start;
         let beltstart = terms.beltstart;
         let stepped =

@@ -2,8 +2,7 @@
 -- Assumes nothing.
 use mathlib.Core.Path.{_≡_, _∙_, ap}
 use mathlib.Core.List.{List}
-use Prim.Native.Nat.{ℕ, _+_, _-_, _*_, _^_, _≤_, _<_}
-use native.Mathlib.Nat.{le-trans, mul-le-mul-right}
+use Prim.Native.Nat.{ℕ, _+_, _-_, _^_, _≤_, _<_}
 use native.Mathlib.Omega.{arith}
 use lib.IntN.{ℤ, _+ℤ_}
 use lib.Signed.{mag}
@@ -15,15 +14,14 @@ use Rattle.classes.specs.declared.CarbonUnits.{CarbonUnits}
 use Rattle.classes.specs.declared.Grams.{Grams}
 use Rattle.classes.specs.Matrix.{entry}
 use Rattle.classes.specs.Calendar.{daysInYear}
-use Rattle.classes.proofs.CalendarLaws.{days-range}
 use Rattle.projection.specs.declared.Region.{Region}
 use Rattle.projection.specs.declared.Projected.{Projected}
-use Rattle.projection.specs.Projection.{areaTotal, projectedYear, SmallRegion, RowsWithin, FactorsFit}
-use Rattle.projection.proofs.ProjectionLaws.{projected-carbon-le}
+use Rattle.projection.specs.Projection.{projectedYear, SmallRegion, RowsWithin, FactorsFit}
+use Rattle.projection.proofs.ProjectionLaws.{fitting-le}
 use Rattle.figures.specs.declared.Figures.{Figures}
-use Rattle.figures.specs.Ranges.{SmallCarbon, SmallYear, SmallGrams}
+use Rattle.figures.specs.Ranges.{SmallCarbon, SmallYear, SmallGrams, DaysOf}
 use Rattle.figures.specs.Figures.{carbonFigures}
-use Rattle.figures.proofs.FiguresLaws.{credited-small}
+use Rattle.figures.proofs.FiguresLaws.{projected-small, calendar-days, year-small}
 use Rattle.figures.specs.declared.State.{State}
 use Rattle.figures.specs.Reckoning.{afterFigures}
 use Rattle.reckoning.specs.declared.Advanced.{Advanced}
@@ -32,13 +30,11 @@ use Rattle.reckoning.specs.Step.{summaryFigures, summaryAdvanced}
 -- the carbon of a small region is small
 pub carbon-small : (matrix factors : List ℕ) (region : Region) (r : Projected) → RowsWithin matrix → FactorsFit factors → SmallRegion region → r ≡ projectedYear (entry factors) matrix region → SmallCarbon (r .carbon .0)
 unfolding projectedYear
-carbon-small matrix factors region r rows fit small e =
-    let l : areaTotal (region .areas) ≤ 1000000000000 = omega arith in
-    rw e (le-trans (projected-carbon-le (region .areas) matrix rows (entry factors) 65535 (λ i j. omega (arith, fit (12 * i + j)))) (mul-le-mul-right 65535 l))
+carbon-small matrix factors region r rows fit small e = rw e (projected-small region matrix (entry factors) small rows (fitting-le factors fit))
 
 -- the days that figures are asked with
-pub days-asked : (days year yeardays : ℕ) → days ≤ daysInYear year → yeardays ≡ daysInYear year → (days ≤ yeardays) × (0 < yeardays) × (yeardays ≤ 366)
-days-asked days year yeardays h e = rw e (h, omega (arith, days-range year), omega (arith, days-range year))
+pub days-asked : (days year yeardays : ℕ) → days ≤ daysInYear year → yeardays ≡ daysInYear year → DaysOf days yeardays
+days-asked days year yeardays h e = rw e (calendar-days days year h)
 
 module _ (matrix factors : List ℕ) (state : State) (days : ℕ) (p b : CarbonUnits) (a : Grams) (r r′ : Projected) (yeardays : ℕ) (figures : Figures)
     (e : r ≡ projectedYear (entry factors) matrix (state .project)) (e′ : r′ ≡ projectedYear (entry factors) matrix (state .belt)) (ed : yeardays ≡ daysInYear (state .year))
@@ -47,10 +43,10 @@ module _ (matrix factors : List ℕ) (state : State) (days : ℕ) (p b : CarbonU
   unfolding summaryFigures projectedYear
   figures-are = ef ∙ rw (e, e′, ed)
 
-  pub grown-fits : SmallYear (record { projected = r .carbon; monitored = p }) → SmallYear (record { projected = r′ .carbon; monitored = b }) → SmallGrams (a .0) → days ≤ yeardays → 0 < yeardays → mag (state .total .0) < 2 ^ 61
+  pub grown-fits : SmallYear (record { projected = r .carbon; monitored = p }) → SmallYear (record { projected = r′ .carbon; monitored = b }) → SmallGrams (a .0) → DaysOf days yeardays → mag (state .total .0) < 2 ^ 61
       → SFits w64 (state .total .0 +ℤ figures .credited .0)
-  grown-fits hp hb ha hd hy ht =
-      let small : mag (figures .credited .0) < 2 ^ 56 = rw ef (credited-small (record { projected = r .carbon; monitored = p }) (record { projected = r′ .carbon; monitored = b }) (a .0) days yeardays hp hb ha hd hy) in
+  grown-fits hp hb ha hd ht =
+      let small : mag (figures .credited .0) < 2 ^ 56 = rw ef (year-small (record { projected = r .carbon; monitored = p }) (record { projected = r′ .carbon; monitored = b }) (a .0) days yeardays hp hb ha hd .credited) in
       sfits-of (omega (arith, mag-plus (state .total .0) (figures .credited .0)))
 
   pub whole : (grown : Grams) → grown .0 ≡ state .total .0 +ℤ figures .credited .0

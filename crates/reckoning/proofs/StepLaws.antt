@@ -66,16 +66,12 @@ monitored-same : (f g : ℕ → ℕ → ℕ) (xs : List ℕ) → ((i j : ℕ) �
 unfolding monitoredCarbon
 monitored-same f g xs h = sum2-cong classes _ _ (λ i j hi hj. rw (h i j hi hj))
 
-module _ (t : Terms) (factors counted : List ℕ) (ef : factors ≡ tableOf (emissionFactor (t .stocks))) (ec : counted ≡ tableOf (countedFactor (t .option) (entry factors))) where
+module _ (t : Terms) (factors counted : List ℕ) (ef : factors ≡ tableOf (emissionFactor (t .stocks))) (ec : counted ≡ tableOf (countedFactor (t .option) (emissionFactor (t .stocks)))) where
   factor-is : (i j : ℕ) → i < classes → j < classes → entry factors i j ≡ emissionFactor (t .stocks) i j
   factor-is i j hi hj = rw ef (entry-tableOf (emissionFactor (t .stocks)) i j hi hj)
 
-  same-counted : (i j : ℕ) → i < classes → j < classes → countedFactor (t .option) (entry factors) i j ≡ countedFactor (t .option) (emissionFactor (t .stocks)) i j
-  unfolding countedFactor
-  same-counted i j hi hj = rw (factor-is i j hi hj)
-
   counted-is : (i j : ℕ) → i < classes → j < classes → entry counted i j ≡ countedFactor (t .option) (emissionFactor (t .stocks)) i j
-  counted-is i j hi hj = ap (λ (l : List ℕ). entry l i j) ec ∙ entry-tableOf (countedFactor (t .option) (entry factors)) i j hi hj ∙ same-counted i j hi hj
+  counted-is i j hi hj = rw ec (entry-tableOf (countedFactor (t .option) (emissionFactor (t .stocks))) i j hi hj)
 
   figures-same : (y : Year) (project belt : Region) → summaryFigures (entry factors) (t .matrix) (summary (entry counted) y) project belt ≡ yearFigures t y project belt
   unfolding summaryFigures yearFigures regionReference tableEmissions

@@ -9,6 +9,7 @@ use lib.IntN.{ℤ, pos, negsuc}
 use lib.Signed.{mag}
 use lib.ListN.{length, take, getD, length-append}
 use lib.Seq.{sets, take-suc, length-take-le}
+use Rattle.arithmetic.proofs.StoreLaws.{sets-append}
 use Rattle.wire.specs.Signed.{figureBytes, figuresBytes, written}
 use Rattle.wire.proofs.StoreLaws.{sets-append}
 use Rattle.wire.proofs.SignedLaws.{length-figure, written-next}

@@ -9,7 +9,7 @@ use native.Mathlib.Omega.{arith}
 use lib.Dec.{lit<}
 use lib.ListN.{length, take, drop, getD, length-append, length-drop, take-append-drop}
 use lib.Seq.{getD-drop, getD-append-add, length-take-le, take-at, drop-at, drop-drop}
-use Rattle.wire.specs.Bytes.{Bytes, number, bytes, numbers, bytesOfEach, total}
+use Rattle.wire.specs.Bytes.{Bytes, number, bytes, numbers, bytesOfEach, total, fieldAt}
 
 -- ---- bytes
 pub bytes-tail : (b : ℕ) (s : List ℕ) → Bytes (b ∷ s) → Bytes s
@@ -115,6 +115,15 @@ pub length-numbers : (k w : ℕ) (s : List ℕ) → length (numbers k w s) ≡ k
 unfolding numbers
 length-numbers zero w s = refl
 length-numbers (suc k) w s = ap suc (length-numbers k w (drop w s))
+
+-- the number at place j
+pub getD-numbers : (k w : ℕ) (u : List ℕ) (j : ℕ) → j < k → getD (numbers k w u) j 0 ≡ fieldAt w u (j * w)
+unfolding numbers fieldAt
+getD-numbers zero w u j h = absurd (omega arith)
+getD-numbers (suc k) w u zero h = rw zero-mul
+getD-numbers (suc k) w u (suc j) h =
+    let e : suc j * w ≡ w + j * w = omega arith in
+    getD-numbers k w (drop w u) j (omega arith) ∙ rw (e, ← drop-drop)
 
 pub numbers-each : (w : ℕ) (xs t : List ℕ) → Below (256 ^ w) xs → numbers (length xs) w (bytesOfEach w xs ++ t) ≡ xs
 unfolding numbers bytesOfEach

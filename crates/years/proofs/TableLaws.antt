@@ -3,11 +3,11 @@
 use mathlib.Core.Path.{_≡_, _∙_, ap}
 use mathlib.Core.Bool.{cond}
 use mathlib.Core.List.{List}
-use Prim.Native.Nat.{ℕ, zero, suc, _+_, _*_, _≤_, _<_}
-use native.Mathlib.Nat.{le-of-suc-le-suc, mul-le-mul-left}
+use Prim.Native.Nat.{ℕ, suc, _+_, _*_, _≤_, _<_}
+use native.Mathlib.Nat.{mul-comm, mul-le-mul-left}
 use native.Mathlib.Omega.{arith}
 use lib.Dec.{eqb}
-use lib.ListN.{take, drop, getD}
+use lib.ListN.{drop, getD}
 use lib.Seq.{drop-drop}
 use borrow.Author.Tests.{eq-eqb, ne-eqb}
 use Rattle.arithmetic.specs.Sum.{sum}
@@ -17,21 +17,14 @@ use Rattle.classes.specs.Matrix.{entry}
 use Rattle.projection.specs.Projection.{FactorsFit}
 use Rattle.figures.specs.Figures.{monitoredCarbon}
 use Rattle.figures.proofs.FiguresLaws.{monitored-places}
-use Rattle.wire.specs.Bytes.{number, numbers, total, fieldAt}
+use Rattle.wire.specs.Bytes.{numbers, total, fieldAt}
+use Rattle.wire.proofs.BytesLaws.{getD-numbers}
 use Rattle.dossier.specs.Reader.{Judged, refused, accepted, _>>=_, give, begin}
 use Rattle.dossier.specs.JudgingRecords.{conversions}
 use Rattle.dossier.proofs.LoopLaws.{total-more, total-le}
 use Rattle.cursor.specs.Answers.{begunSays}
 use Rattle.cursor.proofs.AtLaws.{begun-no, begun-yes, reading, bind-no, bind-yes}
 use Rattle.years.specs.Answers.{monitoredTable}
-
-numbers-entry : (k w : ℕ) (s : List ℕ) (i : ℕ) → i < k → getD (numbers k w s) i 0 ≡ number (take w (drop (w * i) s))
-unfolding numbers
-numbers-entry zero w s i h = let z : ⊥ = omega arith in absurd z
-numbers-entry (suc k) w s zero h = let e : w * 0 ≡ 0 = omega arith in rw e
-numbers-entry (suc k) w s (suc i) h =
-    let e : w * suc i ≡ w + w * i = omega arith in
-    rw (e, ← drop-drop (w * i) w s) (numbers-entry k w (drop w s) i (le-of-suc-le-suc h))
 
 -- the conversions from a place, and what the first k of them weigh
 abbrev pub cells : List ℕ → ℕ → ℕ → List ℕ
@@ -44,22 +37,22 @@ weight-all : (s factors : List ℕ) (at : ℕ) → weight s factors at 144 ≡ m
 unfolding fieldAt
 weight-all s factors at =
     sum-cong 144 (λ i. fieldAt 8 s (at + 2 + 8 * i) * getD factors i 0) (λ i. getD (cells s at 144) i 0 * getD factors i 0)
-    (λ i h. rw (numbers-entry 144 8 (drop (at + 2) s) i h, drop-drop (8 * i) (at + 2) s))
+    (λ i h. rw (getD-numbers 144 8 (drop (at + 2) s) i h, drop-drop (i * 8) (at + 2) s, mul-comm i 8))
     ∙ monitored-places (cells s at 144) factors
 
 -- ---- one conversion more: x from its place, its carbon c
-module _ (s factors : List ℕ) (at k left carbon x c all : ℕ) (fit : FactorsFit factors) (ex : x ≡ fieldAt 8 s (at + 2 + 8 * k)) where
-  pub one-more : total (cells s at k) + left ≡ all → total (cells s at (suc k)) + left ≡ all + x
+module _ (s : List ℕ) (at k x : ℕ) (ex : x ≡ fieldAt 8 s (at + 2 + 8 * k)) where
+  pub one-more : (left all : ℕ) → total (cells s at k) + left ≡ all → total (cells s at (suc k)) + left ≡ all + x
   unfolding fieldAt
-  one-more h =
+  one-more left all h =
       let p : at + 2 + k * 8 ≡ at + 2 + 8 * k = omega arith in
       omega (arith, total-more k 8 s (at + 2) x (rw p ex))
 
-  pub weighed : carbon ≡ weight s factors at k → c ≡ x * getD factors k 0 → carbon + c ≡ weight s factors at (k + 1)
-  weighed e f = omega (arith, sum-next k (λ i. fieldAt 8 s (at + 2 + 8 * i) * getD factors i 0), f ∙ ap (λ (n : ℕ). n * getD factors k 0) ex)
+  pub weighed : (factors : List ℕ) (carbon c : ℕ) → carbon ≡ weight s factors at k → c ≡ x * getD factors k 0 → carbon + c ≡ weight s factors at (k + 1)
+  weighed factors carbon c e f = omega (arith, sum-next k (λ i. fieldAt 8 s (at + 2 + 8 * i) * getD factors i 0), f ∙ ap (λ (n : ℕ). n * getD factors k 0) ex)
 
-  pub small : c ≡ x * getD factors k 0 → c ≤ x * 65535
-  small f = rw f (mul-le-mul-left x (omega (arith, fit k)))
+pub released-le : (factors : List ℕ) (k x c : ℕ) → FactorsFit factors → c ≡ x * getD factors k 0 → c ≤ x * 65535
+released-le factors k x c fit f = rw f (mul-le-mul-left x (omega (arith, fit k)))
 
 -- ---- what the code answers
 module _ (s factors : List ℕ) (at m all r : ℕ) (h : begunSays s at r ≡ begin m 1152 (drop at s)) where

@@ -40,7 +40,8 @@ module _ (factor : ℕ → ℕ → ℕ) (calendarYear days projectTotal beltTota
     unfolding summarizedTables
     belt-no n f = bind-no (monitoredTable factor CD beltTotal) _ v n f ∙ bind-yes (monitoredTable factor CP projectTotal) _ u p v e
 
-    pub belt-yes : (b : CarbonUnits) (w : List ℕ) → accepted b w ≡ monitoredTable factor CD beltTotal v → summarizedRecords calendarYear days p b w ≡ summarizedTables factor calendarYear days projectTotal beltTotal u
+    pub belt-yes : (b : CarbonUnits) (w : List ℕ) → accepted b w ≡ monitoredTable factor CD beltTotal v
+        → summarizedRecords calendarYear days p b w ≡ summarizedTables factor calendarYear days projectTotal beltTotal u
     unfolding summarizedTables
     belt-yes b w f = bind-yes (monitoredTable factor CD beltTotal) _ v b w f ∙ bind-yes (monitoredTable factor CP projectTotal) _ u p v e
 
@@ -50,18 +51,28 @@ module _ (calendarYear days : ℕ) (p b : CarbonUnits) (w : List ℕ) where
   unfolding summarizedRecords
   run-no n g = bind-no summedActivities _ w n g
 
-  pub run-yes : (r : Summed) (x : List ℕ) → accepted r x ≡ summedActivities w → accepted (record { year = calendarYear; days = days; project = p; belt = b; activity = r .grams }) x ≡ summarizedRecords calendarYear days p b w
+  pub run-yes : (r : Summed) (x : List ℕ) → accepted r x ≡ summedActivities w
+      → accepted (record { year = calendarYear; days = days; project = p; belt = b; activity = r .grams }) x ≡ summarizedRecords calendarYear days p b w
   unfolding summarizedRecords give
   run-yes r x g = bind-yes summedActivities _ w r x g
 
--- the tables and records of a year, summarized
+-- the tables and records of a year, and the same summarized
+unfoldable tables : (calendarYear days projectTotal beltTotal : ℕ) → Reader Year
+tables calendarYear days projectTotal beltTotal = do
+  p ← conversions CP projectTotal
+  b ← conversions CD beltTotal
+  l ← activities []
+  give (record { year = calendarYear; operatingDays = days; conversions = p; beltConversions = b; activities = l })
+
 tables-summarized : (factor : ℕ → ℕ → ℕ) (calendarYear days projectTotal beltTotal : ℕ) (u : List ℕ)
-    → after ((conversions CP projectTotal >>= λ p. conversions CD beltTotal >>= λ b. activities [] >>= λ l. give (record { year = calendarYear; operatingDays = days; conversions = p; beltConversions = b; activities = l })) u) (λ y. give (summary factor y))
+    → after (tables calendarYear days projectTotal beltTotal u) (λ y. give (summary factor y))
     ≡ summarizedTables factor calendarYear days projectTotal beltTotal u
-unfolding summarizedTables summarizedRecords monitoredTable summedActivities give _>>=_
+unfolding tables summarizedTables summarizedRecords monitoredTable summedActivities give _>>=_
 tables-summarized factor calendarYear days projectTotal beltTotal u =
     bind-bind (conversions CP projectTotal u) _ _
-    ∙ after-same (conversions CP projectTotal u) _ _ (λ p v. bind-bind (conversions CD beltTotal v) _ _ ∙ after-same (conversions CD beltTotal v) _ _ (λ b w. bind-bind (activities [] w) _ _ ∙ sym (bind-bind (activities [] w) _ _)) ∙ sym (bind-bind (conversions CD beltTotal v) _ _))
+    ∙ after-same (conversions CP projectTotal u) _ _ (λ p v. bind-bind (conversions CD beltTotal v) _ _
+    ∙ after-same (conversions CD beltTotal v) _ _ (λ b w. bind-bind (activities [] w) _ _ ∙ sym (bind-bind (activities [] w) _ _))
+    ∙ sym (bind-bind (conversions CD beltTotal v) _ _))
     ∙ sym (bind-bind (conversions CP projectTotal u) _ _)
 
 -- ---- YR
@@ -76,10 +87,7 @@ module _ (factor : ℕ → ℕ → ℕ) (due left start beltstart : ℕ) (s : Li
 
   module _ (z : r ≡ 0) where
     module _ (some : left ≡ 0 → ⊥) (y d : ℕ) (ey : y ≡ fieldAt 2 s (at + 2)) (ed : d ≡ fieldAt 2 s (at + 4)) where
-      tables : Reader Year
-      tables = conversions CP start >>= λ p. conversions CD beltstart >>= λ b. activities [] >>= λ l. give (record { year = y; operatingDays = d; conversions = p; beltConversions = b; activities = l })
-
-      year-at : yearLeft due left start beltstart (drop at s) ≡ cond (eqb y due) (cond (outside 1 d (daysInYear y)) (refused 6) (tables (drop (at + 6) s))) (refused 6)
+      year-at : yearLeft due left start beltstart (drop at s) ≡ cond (eqb y due) (cond (outside 1 d (daysInYear y)) (refused 6) (tables y d start beltstart (drop (at + 6) s))) (refused 6)
       unfolding yearLeft yearRecords tables
       year-at = rw (ne-eqb left 0 some) (rw (← begun-yes s at YR 4 r h _ z) (simp (reading, ← ey, ← ed)))
 
@@ -93,7 +101,7 @@ module _ (factor : ℕ → ℕ → ℕ) (due left start beltstart : ℕ) (s : Li
         days-wrong f = bind-no (yearLeft due left start beltstart) _ (drop at s) 6 (rw (year-at, eq-eqb y due e, ← ex, ← eo, f))
 
         pub days-right : out ≡ false → summarizedTables factor y d start beltstart (drop (at + 6) s) ≡ summarizedYear factor due left start beltstart (drop at s)
-        unfolding summarizedYear tables _>>=_
+        unfolding summarizedYear _>>=_
         days-right f = sym (rw (year-at, eq-eqb y due e, ← ex, ← eo, f) (tables-summarized factor y d start beltstart (drop (at + 6) s)))
 
 -- ---- what the answers of the code's calls said
@@ -114,7 +122,8 @@ run-was-read s r grams count next j e q i =
     (rw e at q, k .0, omega arith)
 
 -- the records of a year keep its small tables
-pub records-keep : (s : List ℕ) (r : YearAnswer) (calendarYear days : ℕ) (p b : CarbonUnits) (u : List ℕ) → yearSays s r ≡ summarizedRecords calendarYear days p b u → recordsInside s r → SmallCarbon (p .0) → SmallCarbon (b .0)
+pub records-keep : (s : List ℕ) (r : YearAnswer) (calendarYear days : ℕ) (p b : CarbonUnits) (u : List ℕ)
+    → yearSays s r ≡ summarizedRecords calendarYear days p b u → recordsInside s r → SmallCarbon (p .0) → SmallCarbon (b .0)
     → tablesInside s r
 unfolding summarizedRecords _>>=_ give
 records-keep s (YearAnswer.Refused n) calendarYear days p b u q i hp hb = tt
@@ -126,7 +135,8 @@ records-keep s (YearAnswer.Read year′ days′ p′ b′ activity next) calenda
     (i .0, rw ep hp, rw eb hb, i .1)
 
 -- the year and days that were read
-tables-year : (factor : ℕ → ℕ → ℕ) (calendarYear days projectTotal beltTotal : ℕ) (u : List ℕ) (m : Summary) (v : List ℕ) → summarizedTables factor calendarYear days projectTotal beltTotal u ≡ accepted m v
+tables-year : (factor : ℕ → ℕ → ℕ) (calendarYear days projectTotal beltTotal : ℕ) (u : List ℕ) (m : Summary) (v : List ℕ)
+    → summarizedTables factor calendarYear days projectTotal beltTotal u ≡ accepted m v
     → (m .year ≡ calendarYear) × (m .days ≡ days)
 unfolding summarizedTables summarizedRecords _>>=_ give
 tables-year factor calendarYear days projectTotal beltTotal u m v e =
@@ -136,7 +146,8 @@ tables-year factor calendarYear days projectTotal beltTotal u m v e =
     let w = was (r .3) .0 in
     (ap (λ (x : Summary). x .year) (sym w), ap (λ (x : Summary). x .days) (sym w))
 
-pub fits : (factor : ℕ → ℕ → ℕ) (s : List ℕ) (r : YearAnswer) (due left days projectTotal beltTotal : ℕ) (u : List ℕ) → yearSays s r ≡ summarizedTables factor due days projectTotal beltTotal u → (left ≡ 0 → ⊥) → days ≤ daysInYear due → yearFits due left r
+pub fits : (factor : ℕ → ℕ → ℕ) (s : List ℕ) (r : YearAnswer) (due left days projectTotal beltTotal : ℕ) (u : List ℕ)
+    → yearSays s r ≡ summarizedTables factor due days projectTotal beltTotal u → (left ≡ 0 → ⊥) → days ≤ daysInYear due → yearFits due left r
 fits factor s (YearAnswer.Refused n) due left days projectTotal beltTotal u q some h = tt
 fits factor s (YearAnswer.Read year′ days′ p b activity next) due left days projectTotal beltTotal u q some h =
     let w = tables-year factor due days projectTotal beltTotal u _ _ (sym q) in

@@ -7,7 +7,7 @@ ghost use Prim.Native.Nat.{_≤_, _<_};
 ghost use lib.ListN.{length, drop};
 ghost use Rattle.classes.specs.Matrix.{entry};
 ghost use mathlib.Core.List.{[]};
-ghost use Rattle.projection.specs.Projection.{FactorsFit};
+ghost use Rattle.projection.specs.Projection.{SmallArea, FactorsFit};
 ghost use Rattle.dossier.specs.Reader.{numberOf};
 ghost use Rattle.dossier.specs.Judging.{noneLeft, end};
 ghost use Rattle.cursor.specs.Answers.{numberSays};
@@ -40,7 +40,7 @@ pub enum YearAnswer {
 
 // CP or CD from at: 144 conversions whose sum is total, weighed by the factors. Each is tested against what is left of the total.
 fn read_table(s: &[u8], at: usize, m: u64, total: AreaUnits, factors: &[u64; 144]) -> TableAnswer
-    requires { ⌜ (at ≤ length (now s)) × (total .0 ≤ 1000000000000) ⌝ }
+    requires { ⌜ (at ≤ length (now s)) × SmallArea (total .0) ⌝ }
     requires { ⌜ FactorsFit (now factors) ⌝ }
     ensures { λ r. ⌜ tableSays (now (s .entry)) r ≡ monitoredTable (entry (now (factors .entry))) m (total .0) (drop at (now (s .entry))) ⌝ }
     ensures { λ r. ⌜ tableInside (now (s .entry)) r ⌝ }
@@ -49,24 +49,23 @@ fn read_table(s: &[u8], at: usize, m: u64, total: AreaUnits, factors: &[u64; 144
     if fault != 0 {
         return TableAnswer::Refused(fault);
     }
-    let mut left = total.0;
-    let mut carbon: u64 = 0;
+    let mut left = total;
+    let mut carbon = CarbonUnits(0);
     let mut k: usize = 0;
     while k < 144 {
-        let x = wire::field64(s, at + 2 + 8 * k);
-        if left < x {
+        let x = AreaUnits(wire::field64(s, at + 2 + 8 * k));
+        if left.0 < x.0 {
             return TableAnswer::Refused(7);
         }
-        left = left - x;
-        let c = projection::released(AreaUnits(x), factors[k]);
-        carbon = carbon + c.0;
+        left = left.minus(x);
+        carbon = carbon.plus(projection::released(x, factors[k]));
         k += 1;
     }
-    if left != 0 {
+    if left.0 != 0 {
         return TableAnswer::Refused(7);
     }
     TableAnswer::Read {
-        carbon: CarbonUnits(carbon),
+        carbon,
         next: at + 1154,
     }
 }
@@ -81,7 +80,7 @@ fn read_tables(
     belt: AreaUnits,
     factors: &[u64; 144],
 ) -> YearAnswer
-    requires { ⌜ (at ≤ length (now s)) × (project .0 ≤ 1000000000000) × (belt .0 ≤ 1000000000000) ⌝ }
+    requires { ⌜ (at ≤ length (now s)) × SmallArea (project .0) × SmallArea (belt .0) ⌝ }
     requires { ⌜ FactorsFit (now factors) ⌝ }
     ensures { λ r. ⌜ yearSays (now (s .entry)) r ≡ summarizedTables (entry (now (factors .entry))) year days (project .0) (belt .0) (drop at (now (s .entry))) ⌝ }
     ensures { λ r. ⌜ tablesInside (now (s .entry)) r ⌝ }
@@ -172,7 +171,7 @@ pub fn read_year(
     belt: AreaUnits,
     factors: &[u64; 144],
 ) -> YearAnswer
-    requires { ⌜ (at ≤ length (now s)) × (project .0 ≤ 1000000000000) × (belt .0 ≤ 1000000000000) ⌝ }
+    requires { ⌜ (at ≤ length (now s)) × SmallArea (project .0) × SmallArea (belt .0) ⌝ }
     requires { ⌜ FactorsFit (now factors) ⌝ }
     ensures { λ r. ⌜ yearSays (now (s .entry)) r ≡ summarizedYear (entry (now (factors .entry))) year left (project .0) (belt .0) (drop at (now (s .entry))) ⌝ }
     ensures { λ r. ⌜ tablesInside (now (s .entry)) r ⌝ }

@@ -27,7 +27,7 @@ returns c = let b = c .before .before .before in c .of .ensures ∙ ap pos (whol
 parts-small : (c : tie.After-struct-known) → parts (c .before .args .carbon .0) (11 * c .before .args .days) (300 * c .before .args .yeardays) < 2 ^ 53
 parts-small c =
     let pre = c .before .pre in
-    rw (whole (c .before .args .carbon .0) (c .before .args .days) (c .before .args .yeardays) (pre .1 .1)) (reference-small (pre .0) (pre .1 .0) (pre .1 .1))
+    rw (whole (c .before .args .carbon .0) (c .before .args .days) (c .before .args .yeardays) (pre .1 .1)) (reference-small (pre .0) (pre .1))
 
 mul-weight : tie.Need-mul-weight
 mul-weight c = search needs

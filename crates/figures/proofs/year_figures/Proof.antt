@@ -9,37 +9,22 @@ use borrow.Author.Needs.{needs}
 use Rattle.figures.specs.declared.Figures.{Figures}
 use Rattle.figures.specs.Figures.{referenceLevel, stockChangeEmissions, displacedEmissions, reductionOf, creditedOf, figuresOf}
 use Rattle.figures.specs.Ranges.{SmallGrams}
-use Rattle.figures.proofs.FiguresLaws.{within}
-use Rattle.figures.proofs.FiguresLaws.{reference-small, emissions-small, displaced-small, reduction-steps}
+use Rattle.figures.proofs.FiguresLaws.{within, reference-small, emissions-small, displaced-small, reduction-steps}
 use Rattle.figures.proofs.year_figures.Statement.{statement}
 use Rattle.figures.proofs.year_figures.Tie as tie
 
--- what the calls give, put together
-all-figures : {reference emitted activity belt beltReference displaced first second reduction credited r e b k : ℤ} → reference ≡ r → emitted ≡ e → belt ≡ b → beltReference ≡ k → displaced ≡ displacedEmissions belt beltReference
-    → first ≡ reference -ℤ emitted → second ≡ first -ℤ activity → reduction ≡ second -ℤ displaced → credited ≡ creditedOf reduction
-    → _≡_ {A = Figures} (record { reference = record { 0 = reference }; project = record { 0 = emitted }; activity = record { 0 = activity }; belt = record { 0 = belt }; «belt_reference» = record { 0 = beltReference }; displaced = record { 0 = displaced }; reduction = record { 0 = reduction }; credited = record { 0 = credited } }) (figuresOf r e activity b k)
-unfolding figuresOf reductionOf
-all-figures r e b k d f s n c = rw (c, n, s, f, d, r, e, b, k)
-
-returns : tie.Need-returns
-returns c =
-    let after = c .before .before .before .before in
-    let belt = after .before in
-    let own = belt .before .before in
-    let a = own .before .before .args in
-    all-figures {b = pos (stockChangeEmissions (a .belt .monitored .0))} {k = pos (referenceLevel (a .belt .projected .0) (a .days) (a .yeardays))} (own .before .reference-level .ensures) (own .stock-change-emissions .ensures) (belt .before .stock-change-emissions2 .ensures) (belt .reference-level2 .ensures) (after .displaced-emissions .ensures)
-    (c .before .before .before .minus .ensures) (c .before .before .minus2 .ensures) (c .before .minus3 .ensures) (c .credited-part .ensures)
-
 -- what the calls give is small
 small : (c : tie.After-reference-level2)
-    → SmallGrams (c .before .before .before .reference-level .result .0) × SmallGrams (c .before .before .stock-change-emissions .result .0) × SmallGrams (c .before .stock-change-emissions2 .result .0) × SmallGrams (c .reference-level2 .result .0)
+    → let own = c .before .before in
+    SmallGrams (own .before .reference-level .result .0) × SmallGrams (own .stock-change-emissions .result .0)
+    × SmallGrams (c .before .stock-change-emissions2 .result .0) × SmallGrams (c .reference-level2 .result .0)
 small c =
     let own = c .before .before in
-    let pre = own .before .before .pre in (
-      rw (own .before .reference-level .ensures) (reference-small (pre .0 .0 .0) (pre .1 .0) (pre .1 .1)),
-      rw (own .stock-change-emissions .ensures) (emissions-small (pre .0 .0 .1)),
-      rw (c .before .stock-change-emissions2 .ensures) (emissions-small (pre .0 .1 .1)),
-      rw (c .reference-level2 .ensures) (reference-small (pre .0 .1 .0) (pre .1 .0) (pre .1 .1)),
+    let ((project, belt, activity), days) = own .before .before .pre in (
+      rw (own .before .reference-level .ensures) (reference-small (project .0) days),
+      rw (own .stock-change-emissions .ensures) (emissions-small (project .1)),
+      rw (c .before .stock-change-emissions2 .ensures) (emissions-small (belt .1)),
+      rw (c .reference-level2 .ensures) (reference-small (belt .0) days),
     )
 
 -- the code's names, after the call of displaced_emissions, and their differences one after the other
@@ -56,10 +41,12 @@ abbrev displaced : tie.After-displaced-emissions → ℤ
 displaced c = c .displaced-emissions .result .0
 
 steps : (c : tie.After-displaced-emissions)
-    → (mag (reference c -ℤ emitted c) < 2 ^ 56) × (mag (reference c -ℤ emitted c -ℤ activity c) < 2 ^ 56) × (mag (reference c -ℤ emitted c -ℤ activity c -ℤ displaced c) < 2 ^ 56)
+    → (mag (reference c -ℤ emitted c) < 2 ^ 56) × (mag (reference c -ℤ emitted c -ℤ activity c) < 2 ^ 56)
+    × (mag (reference c -ℤ emitted c -ℤ activity c -ℤ displaced c) < 2 ^ 56)
 steps c =
-    let s = small (c .before) in
-    reduction-steps (reference c) (emitted c) (activity c) (displaced c) (s .0) (s .1) (c .before .before .before .before .before .pre .0 .2) (rw (c .displaced-emissions .ensures) (displaced-small _ _ (s .2) (s .3)))
+    let at-start = c .before .before .before .before .before in
+    let (r, e, b, k) = small (c .before) in
+    reduction-steps (reference c) (emitted c) (activity c) (displaced c) r e (at-start .pre .0 .2) (rw (c .displaced-emissions .ensures) (displaced-small _ _ b k))
 
 reference-level-requires : tie.Need-reference-level-requires
 reference-level-requires c κs = search needs
@@ -86,7 +73,49 @@ minus-requires-3 : tie.Need-minus-requires-3
 minus-requires-3 c κs = rw (c .minus2 .ensures, c .before .minus .ensures) (within (steps (c .before .before) .2))
 
 credited-part-requires : tie.Need-credited-part-requires
-credited-part-requires c κs = rw (c .minus3 .ensures, c .before .minus2 .ensures, c .before .before .minus .ensures) (omega (arith, steps (c .before .before .before) .2))
+credited-part-requires c κs =
+    let second = c .before in
+    let first = second .before in
+    rw (c .minus3 .ensures, second .minus2 .ensures, first .minus .ensures) (omega (arith, steps (first .before) .2))
+
+-- what the calls give, put together
+all-figures : {reference emitted activity belt beltReference displaced first second reduction credited r e b k : ℤ}
+    → reference ≡ r → emitted ≡ e → belt ≡ b → beltReference ≡ k → displaced ≡ displacedEmissions belt beltReference
+    → first ≡ reference -ℤ emitted → second ≡ first -ℤ activity → reduction ≡ second -ℤ displaced → credited ≡ creditedOf reduction
+    → _≡_ {A = Figures} (record {
+      reference = record { 0 = reference };
+      project = record { 0 = emitted };
+      activity = record { 0 = activity };
+      belt = record { 0 = belt };
+      «belt_reference» = record { 0 = beltReference };
+      displaced = record { 0 = displaced };
+      reduction = record { 0 = reduction };
+      credited = record { 0 = credited };
+    }) (figuresOf r e activity b k)
+unfolding figuresOf reductionOf
+all-figures r e b k d f s n c = rw (c, n, s, f, d, r, e, b, k)
+
+returns : tie.Need-returns
+returns c =
+    let third = c .before in
+    let second = third .before in
+    let first = second .before in
+    let after = first .before in
+    let belt = after .before in
+    let own = belt .before .before in
+    let a = own .before .before .args in
+    all-figures
+    {b = pos (stockChangeEmissions (a .belt .monitored .0))}
+    {k = pos (referenceLevel (a .belt .projected .0) (a .days) (a .yeardays))}
+    (own .before .reference-level .ensures)
+    (own .stock-change-emissions .ensures)
+    (belt .before .stock-change-emissions2 .ensures)
+    (belt .reference-level2 .ensures)
+    (after .displaced-emissions .ensures)
+    (first .minus .ensures)
+    (second .minus2 .ensures)
+    (third .minus3 .ensures)
+    (c .credited-part .ensures)
 
 pub year-figures-spec : {M : Type 1} → statement M
 year-figures-spec =

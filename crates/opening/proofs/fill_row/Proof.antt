@@ -8,9 +8,10 @@ use native.Mathlib.Omega.{arith}
 use lib.ListN.{length, drop}
 use lib.Seq.{sets}
 use borrow.Author.Needs.{needs}
+use Rattle.arithmetic.proofs.StoreLaws.{stored-next}
 use Rattle.wire.specs.Bytes.{numbers, total}
 use Rattle.wire.proofs.BytesLaws.{length-numbers}
-use Rattle.opening.proofs.NumbersLaws.{next-number, stored-next}
+use Rattle.opening.proofs.NumbersLaws.{next-number}
 use Rattle.opening.proofs.fill_row.Statement.{statement}
 use Rattle.opening.proofs.fill_row.Tie as tie
 

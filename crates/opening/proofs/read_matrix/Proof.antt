@@ -10,26 +10,23 @@ use borrow.Author.Needs.{needs}
 use Rattle.wire.specs.Bytes.{numbers}
 use Rattle.dossier.specs.Reader.{give}
 use Rattle.dossier.specs.JudgingRecords.{rows}
-use Rattle.opening.proofs.MatrixLaws.{RowsRight, matrix-refused, next-row, all-rows, matrix-no, row-wrong, row-right, matrix-read}
+use Rattle.opening.proofs.MatrixLaws.{RowsRight, next-row, all-rows, matrix-no, row-wrong, row-right, matrix-read}
 use Rattle.opening.proofs.read_matrix.Statement.{statement}
 use Rattle.opening.proofs.read_matrix.Tie as tie
 
 abbrev Inv-loop : tie.InvT-loop
-Inv-loop s at fault matrix₀ i₀ matrix i = (i ≤ 12) × (matrix ≡ sets matrix₀ 0 (numbers (12 * i) 4 (drop (at + 2) s))) × RowsRight s at i
+Inv-loop s at matrix₀ fault i₀ matrix i = (i ≤ 12) × (matrix ≡ sets matrix₀ 0 (numbers (12 * i) 4 (drop (at + 2) s))) × RowsRight s at i
 
 abbrev μ-loop : tie.MeasureT-loop
-μ-loop s at fault matrix₀ i₀ matrix i = 12 - i
+μ-loop s at matrix₀ fault i₀ matrix i = 12 - i
 
 begun-requires : tie.Need-begun-requires Inv-loop μ-loop
 begun-requires c κs = search needs
 
-no-matrix-requires : tie.Need-no-matrix-requires Inv-loop μ-loop
-no-matrix-requires c κs = search needs
-
 returns : tie.Need-returns Inv-loop μ-loop
 returns c =
-    let a = c .before .before .before .before .args in
-    matrix-refused _ _ _ _ (c .no-matrix .ensures) (matrix-no (a .s .now) (a .at) _ (c .before .before .begun .ensures .0) (c .before .if1 .taken))
+    let a = c .before .before .before .args in
+    (matrix-no (a .s .now) (a .at) _ (c .before .begun .ensures .0) (c .if1 .taken), tt)
 
 loop-holds : tie.Need-loop-holds Inv-loop μ-loop
 unfolding numbers rows give
@@ -47,16 +44,13 @@ add-fill-row-2 c = search needs
 fill-row-requires : tie.Need-fill-row-requires Inv-loop μ-loop
 fill-row-requires c κs = search needs
 
-no-matrix-requires-2 : tie.Need-no-matrix-requires-2 Inv-loop μ-loop
-no-matrix-requires-2 c κs = search needs
-
 returns-2 : tie.Need-returns-2 Inv-loop μ-loop
 returns-2 c =
-    let n = c .before .before in
+    let n = c .before in
     let l = n .before .before .before in
     let b = l .before .before in
     let a = b .before .before .args in
-    matrix-refused _ _ _ _ (c .no-matrix2 .ensures) (row-wrong (a .s .now) (a .at) _ (b .begun .ensures .0) (l .before .if1 .left) (l .loop .i) _ (omega arith) (n .fill-row .ensures .0) (c .before .if2 .taken))
+    (row-wrong (a .s .now) (a .at) _ (b .begun .ensures .0) (l .before .if1 .left) (l .loop .i) _ (omega arith) (n .fill-row .ensures .0) (c .if2 .taken), tt)
 
 add-i : tie.Need-add-i Inv-loop μ-loop
 add-i c = search needs
@@ -86,7 +80,7 @@ returns-3 c =
     let a = b .before .before .args in
     let e : l .loop .i ≡ 12 = omega arith in
     let k = rw e at (l .loop .inv) in
-    rw (all-rows _ _ (a .s .now) (a .at + 2) refl (k .1)) (matrix-read (a .s .now) (a .at) _ (b .begun .ensures .0) (l .before .if1 .left) (k .2), omega arith)
+    rw (all-rows _ _ (a .s .now) (a .at + 2) (b .before .before .pre .1) (k .1)) (matrix-read (a .s .now) (a .at) _ (b .begun .ensures .0) (l .before .if1 .left) (k .2), omega arith)
 
 pub read-matrix-spec : {M : Type 1} → statement M
 read-matrix-spec =
@@ -95,14 +89,12 @@ read-matrix-spec =
     Inv-loop
     μ-loop
     begun-requires
-    no-matrix-requires
     returns
     loop-holds
     add-fill-row
     mul-fill-row
     add-fill-row-2
     fill-row-requires
-    no-matrix-requires-2
     returns-2
     add-i
     loop-less

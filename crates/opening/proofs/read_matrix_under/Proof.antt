@@ -11,14 +11,14 @@ read-matrix-requires c κs = search needs
 returns : tie.Need-returns
 returns c =
     let r = c .read-matrix in
-    option-two _ (c .before .before .before .args .s .now) (r .result .matrix) (r .result .answer) _ (c .before .if1 .taken) (r .ensures .0) (r .ensures .1)
+    option-two _ (c .before .before .before .before .args .s .now) _ (r .result) _ (c .before .before .if1 .taken) (r .ensures .0) (r .ensures .1)
 
-option-one-matrix-requires : tie.Need-option-one-matrix-requires
-option-one-matrix-requires c κs = search needs
+fill-option-one-requires : tie.Need-fill-option-one-requires
+fill-option-one-requires c κs = search needs
 
 returns-2 : tie.Need-returns-2
-returns-2 c = let k = option-one _ _ _ (c .before .if1 .left) (c .option-one-matrix .ensures) in (k .0, (c .before .before .before .pre, k .1))
+returns-2 c = let k = option-one _ _ _ (c .before .before .if1 .left) (c .fill-option-one .ensures) in (k .0, (c .before .before .before .before .pre .0, k .1))
 
 pub read-matrix-under-spec : {M : Type 1} → statement M
 read-matrix-under-spec =
-    tie.close (tie.spec read-matrix-requires returns option-one-matrix-requires returns-2)
+    tie.close (tie.spec read-matrix-requires returns fill-option-one-requires returns-2)

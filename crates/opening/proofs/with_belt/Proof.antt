@@ -1,5 +1,6 @@
 -- `opening::with_belt` meets its contract: the first refusal of DA and MP is its own; otherwise both are read.
 -- Assumes nothing.
+use mathlib.Core.Path.{refl}
 use borrow.Author.Needs.{needs}
 use Rattle.cursor.proofs.AtLaws.{bind-no}
 use Rattle.opening.specs.Answers.{matrixOf, fromBelt}
@@ -21,8 +22,8 @@ enum-known-found-2 c = search needs
 
 read-matrix-under-requires : tie.Need-read-matrix-under-requires
 read-matrix-under-requires c κs =
-    let k = c .before in
-    (rw (k .found2 .given .1) at (k .before .before .before .read-areas .ensures .1)) .0
+    let k = c .before .before in
+    ((rw (k .found2 .given .1) at (k .before .before .before .read-areas .ensures .1)) .0, refl)
 
 enum-known-answer : tie.Need-enum-known-answer
 enum-known-answer c = search needs
@@ -42,8 +43,8 @@ returns c =
 returns-2 : tie.Need-returns-2
 returns-2 c =
     let m = c .before .before in
-    let r = m .before .before .before in
-    let k = r .before .before in
+    let r = m .before .before in
+    let k = r .before .before .before in
     let b = rw (k .found2 .given .1) at (k .before .before .before .read-areas .ensures) in
     opening-refused _ _ _ _ (c .no-opening2 .ensures) (matrix-fault _ _ _ _ _ (b .0) _ (rw (m .answer .given .1) at (r .read-matrix-under .ensures .0)))
 

@@ -1,4 +1,4 @@
--- `projection::area_total` meets its contract: after i turns the sum is that of the first i areas.
+-- `projection::area_total` meets its contract: after i turns the total is that of the first i areas.
 -- Assumes nothing.
 use mathlib.Core.Path.{_≡_, sym}
 use mathlib.Core.List.{List}
@@ -17,7 +17,7 @@ step : (areas : List AreaUnits) (i : ℕ) → i < 12 → sum i (area areas) + ar
 step areas i h = omega (arith, sum-next i (area areas), sum-part (i + 1) 12 (area areas) (omega arith))
 
 abbrev Inv-loop : tie.InvT-loop
-Inv-loop areas total₀ i₀ total i = (i ≤ 12) × (total ≡ sum i (area areas))
+Inv-loop areas total₀ i₀ total i = (i ≤ 12) × (total .0 ≡ sum i (area areas))
 
 abbrev μ-loop : tie.MeasureT-loop
 μ-loop areas total₀ i₀ total i = 12 - i
@@ -25,14 +25,16 @@ abbrev μ-loop : tie.MeasureT-loop
 loop-holds : tie.Need-loop-holds Inv-loop μ-loop
 loop-holds c = (search needs, sym (sum-none _))
 
-mul-a : tie.Need-mul-a Inv-loop μ-loop
-mul-a c = search needs
+mul-plus : tie.Need-mul-plus Inv-loop μ-loop
+mul-plus c = search needs
 
-array-copy-out-a : tie.Need-array-copy-out-a Inv-loop μ-loop
-array-copy-out-a c = search needs
+array-copy-out-plus : tie.Need-array-copy-out-plus Inv-loop μ-loop
+array-copy-out-plus c = search needs
 
-add-total : tie.Need-add-total Inv-loop μ-loop
-add-total c = omega (arith, step (c .before .before .before .before .args .t1) (c .before .before .before .loop .i) (omega arith))
+plus-requires : tie.Need-plus-requires Inv-loop μ-loop
+plus-requires c κs =
+    let at-loop = c .before .before in
+    omega (arith, step (at-loop .before .args .t1) (at-loop .loop .i) (omega arith))
 
 add-i : tie.Need-add-i Inv-loop μ-loop
 add-i c = search needs
@@ -41,7 +43,9 @@ loop-less : tie.Need-loop-less Inv-loop μ-loop
 loop-less c = search needs
 
 loop-again : tie.Need-loop-again Inv-loop μ-loop
-loop-again c = (search needs, omega (arith, sum-next (c .before .before .before .loop .i) (area (c .before .before .before .before .args .t1))))
+loop-again c =
+    let at-loop = c .before .before .before in
+    (search needs, omega (arith, sum-next (at-loop .loop .i) (area (at-loop .before .args .t1))))
 
 returns : tie.Need-returns Inv-loop μ-loop
 returns c = let e : c .before .loop .i ≡ 12 = omega arith in rw e at (c .before .loop .inv .1)
@@ -53,9 +57,9 @@ area-total-spec =
     Inv-loop
     μ-loop
     loop-holds
-    mul-a
-    array-copy-out-a
-    add-total
+    mul-plus
+    array-copy-out-plus
+    plus-requires
     add-i
     loop-less
     loop-again

@@ -11,47 +11,23 @@ use Rattle.arithmetic.proofs.SumLaws.{sum-none, sum-next, term-le}
 use Rattle.classes.specs.declared.AreaUnits.{AreaUnits}
 use Rattle.classes.specs.Matrix.{entry}
 use Rattle.projection.specs.Projection.{area, areaTotal, flow, nextArea, inflowCarbon, RowsWithin, FactorsFit}
-use Rattle.projection.proofs.ProjectionLaws.{probability-le, inflow-next, inflow-carbon-next}
+use Rattle.projection.proofs.ProjectionLaws.{fitting-le, probability-le, inflow-next, inflow-carbon-next}
 use Rattle.projection.proofs.flows_into.Statement.{statement}
 use Rattle.projection.proofs.flows_into.Tie as tie
 
+-- what flows into j from class i, and the carbon that it sets free
 abbrev inflow : List AreaUnits → List ℕ → ℕ → ℕ → ℕ
 inflow areas matrix j i = flow areas matrix i j
 
 abbrev inflowed : List AreaUnits → List ℕ → List ℕ → ℕ → ℕ → ℕ
 inflowed areas matrix factors j i = flow areas matrix i j * entry factors i j
 
--- one turn: the flow f from class i, and the carbon c that it sets free
-module _ (areas : List AreaUnits) (matrix factors : List ℕ) (j i s t f c : ℕ) (small : areaTotal areas ≤ 1000000000000) (rows : RowsWithin matrix) (fit : FactorsFit factors) (hj : j < 12) (hi : i < 12) where
-  flowed : s ≡ sum i (inflow areas matrix j) → f ≡ inflow areas matrix j i → (s + f ≡ sum (i + 1) (inflow areas matrix j)) × (s + f ≤ 1000000000000)
-  flowed p q = (omega (arith, sum-next i (inflow areas matrix j)), omega (arith, inflow-next areas matrix rows i j hi hj))
-
-  released : t ≡ sum i (inflowed areas matrix factors j) → f ≡ inflow areas matrix j i → c ≡ f * entry factors i j
-      → (t + c ≡ sum (i + 1) (inflowed areas matrix factors j)) × (t + c ≤ 1000000000000 * 65535)
-  released p q r =
-      let e : c ≡ inflowed areas matrix factors j i = rw q at r in
-      let le : (a b : ℕ) → entry factors a b ≤ 65535 = λ a b. omega (arith, fit (12 * a + b)) in
-      (omega (arith, sum-next i (inflowed areas matrix factors j)), omega (arith, inflow-carbon-next areas matrix rows (entry factors) 65535 le i j hi hj, mul-le-mul-right 65535 small))
-
 abbrev Inv-loop : tie.InvT-loop
-Inv-loop matrix factors j areas area₀ carbon₀ i₀ area carbon i = (i ≤ 12) × (area ≡ sum i (inflow areas matrix j)) × (carbon ≡ sum i (inflowed areas matrix factors j))
+Inv-loop matrix factors j areas area₀ carbon₀ i₀ area carbon i =
+    (i ≤ 12) × (area .0 ≡ sum i (inflow areas matrix j)) × (carbon .0 ≡ sum i (inflowed areas matrix factors j))
 
 abbrev μ-loop : tie.MeasureT-loop
 μ-loop matrix factors j areas area₀ carbon₀ i₀ area carbon i = 12 - i
-
-after-flow : (c : tie.After-struct-known Inv-loop μ-loop)
-    → (c .before .before .before .before .before .loop .area + c .before .flow .result .0 ≡ sum (c .before .before .before .before .before .loop .i + 1) (inflow (c .before .before .before .before .before .before .args .t1) (c .before .before .before .before .before .before .args .matrix .now) (c .before .before .before .before .before .before .args .j))) × (c .before .before .before .before .before .loop .area + c .before .flow .result .0 ≤ 1000000000000)
-after-flow c =
-    let a = c .before .before .before .before .before .before .args in
-    let pre = c .before .before .before .before .before .before .pre in
-    flowed (a .t1) (a .matrix .now) (a .factors .now) (a .j) (c .before .before .before .before .before .loop .i) _ 0 _ 0 (pre .0) (pre .1 .0) (pre .1 .1 .0) (pre .1 .1 .1) (omega arith) (c .before .before .before .before .before .loop .inv .1) (c .before .flow .ensures)
-
-after-released : (c : tie.After-struct-known2 Inv-loop μ-loop)
-    → (c .before .before .before .before .before .before .before .before .loop .carbon + c .before .released .result .0 ≡ sum (c .before .before .before .before .before .before .before .before .loop .i + 1) (inflowed (c .before .before .before .before .before .before .before .before .before .args .t1) (c .before .before .before .before .before .before .before .before .before .args .matrix .now) (c .before .before .before .before .before .before .before .before .before .args .factors .now) (c .before .before .before .before .before .before .before .before .before .args .j))) × (c .before .before .before .before .before .before .before .before .loop .carbon + c .before .released .result .0 ≤ 1000000000000 * 65535)
-after-released c =
-    let a = c .before .before .before .before .before .before .before .before .before .args in
-    let pre = c .before .before .before .before .before .before .before .before .before .pre in
-    released (a .t1) (a .matrix .now) (a .factors .now) (a .j) (c .before .before .before .before .before .before .before .before .loop .i) 0 _ _ _ (pre .0) (pre .1 .0) (pre .1 .1 .0) (pre .1 .1 .1) (omega arith) (c .before .before .before .before .before .before .before .before .loop .inv .2) (c .before .before .before .before .flow .ensures) (c .before .released .ensures)
 
 loop-holds : tie.Need-loop-holds Inv-loop μ-loop
 loop-holds c = (search needs, sym (sum-none _), sym (sum-none _))
@@ -75,10 +51,26 @@ element-copy-out-flow : tie.Need-element-copy-out-flow Inv-loop μ-loop
 element-copy-out-flow c = search needs
 
 flow-requires : tie.Need-flow-requires Inv-loop μ-loop
-flow-requires c κs = let pre = c .before .before .before .before .pre in (le-trans (term-le 12 (area (c .before .before .before .before .args .t1)) (c .before .before .before .loop .i) (omega arith)) (pre .0), probability-le (c .before .before .before .before .args .t1) (c .before .before .before .before .args .matrix .now) (pre .1 .0) (c .before .before .before .loop .i) _ (omega arith) (pre .1 .1 .1))
+flow-requires c κs =
+    let at-loop = c .before .before .before in
+    let at-start = at-loop .before in
+    let a = at-start .args in
+    let (small, (rows, (fit, column))) = at-start .pre in
+    let class : at-loop .loop .i < 12 = omega arith in
+    (le-trans (term-le 12 (area (a .t1)) _ class) small, probability-le (a .t1) (a .matrix .now) rows _ _ class column)
 
-add-area : tie.Need-add-area Inv-loop μ-loop
-add-area c = omega (arith, after-flow c .1)
+-- one turn: the flows so far and the next one are no more than all areas, and their carbon as many times the greatest factor
+flow-fits : (c : tie.After-flow Inv-loop μ-loop)
+    → let at-loop = c .before .before .before .before in at-loop .loop .area .0 + c .flow .result .0 ≤ 1000000000000
+flow-fits c =
+    let at-loop = c .before .before .before .before in
+    let at-start = at-loop .before in
+    let a = at-start .args in
+    let (small, (rows, (fit, column))) = at-start .pre in
+    omega (arith, inflow-next (a .t1) (a .matrix .now) rows (at-loop .loop .i) (a .j) (omega arith) column)
+
+plus-requires : tie.Need-plus-requires Inv-loop μ-loop
+plus-requires c κs = omega (arith, flow-fits c)
 
 mul-released : tie.Need-mul-released Inv-loop μ-loop
 mul-released c = search needs
@@ -93,10 +85,27 @@ element-copy-out-released : tie.Need-element-copy-out-released Inv-loop μ-loop
 element-copy-out-released c = search needs
 
 released-requires : tie.Need-released-requires Inv-loop μ-loop
-released-requires c κs = (omega (arith, after-flow (c .before) .1), c .before .before .before .before .before .before .before .pre .1 .1 .0 _)
+released-requires c κs =
+    let at-flow = c .before .before in
+    let at-start = at-flow .before .before .before .before .before in
+    let (small, (rows, (fit, column))) = at-start .pre in
+    (omega (arith, flow-fits at-flow), fit _)
 
-add-carbon : tie.Need-add-carbon Inv-loop μ-loop
-add-carbon c = omega (arith, after-released c .1)
+-- the carbon of the flow from class i
+carbon-of : (c : tie.After-released Inv-loop μ-loop)
+    → let at-loop = c .before .before .before .before .before .before .before in
+    let a = at-loop .before .args in
+    c .released .result .0 ≡ inflowed (a .t1) (a .matrix .now) (a .factors .now) (a .j) (at-loop .loop .i)
+carbon-of c = let at-flow = c .before .before .before in rw (at-flow .flow .ensures) at (c .released .ensures)
+
+plus-requires-2 : tie.Need-plus-requires-2 Inv-loop μ-loop
+plus-requires-2 c κs =
+    let at-loop = c .before .before .before .before .before .before .before in
+    let at-start = at-loop .before in
+    let a = at-start .args in
+    let (small, (rows, (fit, column))) = at-start .pre in
+    let carbon = inflow-carbon-next (a .t1) (a .matrix .now) rows (entry (a .factors .now)) 65535 (fitting-le (a .factors .now) fit) in
+    omega (arith, carbon-of c, carbon (at-loop .loop .i) (a .j) (omega arith) column, mul-le-mul-right 65535 small)
 
 add-i : tie.Need-add-i Inv-loop μ-loop
 add-i c = search needs
@@ -105,7 +114,15 @@ loop-less : tie.Need-loop-less Inv-loop μ-loop
 loop-less c = search needs
 
 loop-again : tie.Need-loop-again Inv-loop μ-loop
-loop-again c = (search needs, after-flow (c .before .before .before) .0, after-released c .0)
+loop-again c =
+    let at-released = c .before in
+    let at-plus = at-released .before .before in
+    let at-loop = at-plus .before .before .before .before .before in
+    let a = at-loop .before .args in (
+      search needs,
+      omega (arith, sum-next (at-loop .loop .i) (inflow (a .t1) (a .matrix .now) (a .j))),
+      omega (arith, carbon-of at-released, sum-next (at-loop .loop .i) (inflowed (a .t1) (a .matrix .now) (a .factors .now) (a .j))),
+    )
 
 returns : tie.Need-returns Inv-loop μ-loop
 unfolding nextArea inflowCarbon
@@ -125,13 +142,13 @@ flows-into-spec =
     mul-flow-3
     element-copy-out-flow
     flow-requires
-    add-area
+    plus-requires
     mul-released
     add-released
     mul-released-2
     element-copy-out-released
     released-requires
-    add-carbon
+    plus-requires-2
     add-i
     loop-less
     loop-again

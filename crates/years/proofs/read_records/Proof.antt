@@ -18,7 +18,10 @@ returns : tie.Need-returns
 returns c = (run-no _ _ _ _ _ _ (run-refused _ _ _ _ (c .before .n .given .1) (c .before .before .before .read-run .ensures .0)), tt)
 
 returns-2 : tie.Need-returns-2
-returns-2 c = let w = run-was-read _ _ _ _ _ _ (c .before .grams .given .1) (c .before .before .before .read-run .ensures .0) (c .before .before .before .read-run .ensures .1) in (run-yes _ _ _ _ _ _ _ (w .0), (w .1, w .2))
+returns-2 c =
+    let at-run = c .before .before .before in
+    let w = run-was-read _ _ _ _ _ _ (c .before .grams .given .1) (at-run .read-run .ensures .0) (at-run .read-run .ensures .1) in
+    (run-yes _ _ _ _ _ _ _ (w .0), (w .1, w .2))
 
 pub read-records-spec : {M : Type 1} → statement M
 read-records-spec =

@@ -17,8 +17,19 @@ enum-known-n c = search needs
 enum-known-carbon : tie.Need-enum-known-carbon
 enum-known-carbon c = search needs
 
+-- CP was read, and after it CD
+abbrev at-project : tie.After-known-told2 → tie.After-read-table
+at-project c = c .before .before .before
+
+abbrev at-belt : tie.After-known-told4 → tie.After-read-table2
+at-belt c = c .before .before .before
+
 read-table-requires-2 : tie.Need-read-table-requires-2
-read-table-requires-2 c κs = ((table-was-read _ _ _ _ _ (c .before .carbon .given .1) (c .before .before .before .read-table .ensures .0) (c .before .before .before .read-table .ensures .1) .1, c .before .before .before .before .before .pre .0 .2), c .before .before .before .before .before .pre .1)
+read-table-requires-2 c κs =
+    let at-start = at-project c .before .before in
+    let ((inside, project, belt), fit) = at-start .pre in
+    let (_, next, _) = table-was-read _ _ _ _ _ (c .before .carbon .given .1) (at-project c .read-table .ensures .0) (at-project c .read-table .ensures .1) in
+    ((next, belt), fit)
 
 enum-known-n-2 : tie.Need-enum-known-n-2
 enum-known-n-2 c = search needs
@@ -27,18 +38,34 @@ enum-known-belt-carbon : tie.Need-enum-known-belt-carbon
 enum-known-belt-carbon c = search needs
 
 read-records-requires : tie.Need-read-records-requires
-read-records-requires c κs = table-was-read _ _ _ _ _ (c .before .belt-carbon .given .1) (c .before .before .before .read-table2 .ensures .0) (c .before .before .before .read-table2 .ensures .1) .1
+read-records-requires c κs = table-was-read _ _ _ _ _ (c .before .belt-carbon .given .1) (at-belt c .read-table2 .ensures .0) (at-belt c .read-table2 .ensures .1) .1
 
 returns : tie.Need-returns
-returns c = (project-no (entry (c .before .before .before .before .before .args .factors .now)) (c .before .before .before .before .before .args .year) (c .before .before .before .before .before .args .days) (c .before .before .before .before .before .args .project .0) (c .before .before .before .before .before .args .belt .0) (drop (c .before .before .before .before .before .args .at) (c .before .before .before .before .before .args .s .now)) _ (table-refused _ _ _ _ (c .before .n .given .1) (c .before .before .before .read-table .ensures .0)), tt)
+returns c =
+    let at-table = c .before .before .before in
+    let a = at-table .before .before .args in
+    let no = project-no (entry (a .factors .now)) (a .year) (a .days) (a .project .0) (a .belt .0) (drop (a .at) (a .s .now)) in
+    (no _ (table-refused _ _ _ _ (c .before .n .given .1) (at-table .read-table .ensures .0)), tt)
 
 returns-2 : tie.Need-returns-2
-returns-2 c = (belt-no (entry (c .before .before .before .before .before .before .before .before .before .args .factors .now)) (c .before .before .before .before .before .before .before .before .before .args .year) (c .before .before .before .before .before .before .before .before .before .args .days) (c .before .before .before .before .before .before .before .before .before .args .project .0) (c .before .before .before .before .before .before .before .before .before .args .belt .0) (drop (c .before .before .before .before .before .before .before .before .before .args .at) (c .before .before .before .before .before .before .before .before .before .args .s .now)) _ _ (table-was-read _ _ _ _ _ (c .before .before .before .before .before .carbon .given .1) (c .before .before .before .before .before .before .before .read-table .ensures .0) (c .before .before .before .before .before .before .before .read-table .ensures .1) .0) _ (table-refused _ _ _ _ (c .before .n2 .given .1) (c .before .before .before .read-table2 .ensures .0)), tt)
+returns-2 c =
+    let at-table = c .before .before .before in
+    let k = at-table .before in
+    let a = at-project k .before .before .args in
+    let p = table-was-read _ _ _ _ _ (k .before .carbon .given .1) (at-project k .read-table .ensures .0) (at-project k .read-table .ensures .1) in
+    let no = belt-no (entry (a .factors .now)) (a .year) (a .days) (a .project .0) (a .belt .0) (drop (a .at) (a .s .now)) in
+    (no _ _ (p .0) _ (table-refused _ _ _ _ (c .before .n2 .given .1) (at-table .read-table2 .ensures .0)), tt)
 
 returns-3 : tie.Need-returns-3
-returns-3 c = let p = table-was-read _ _ _ _ _ (c .before .before .before .before .before .before .carbon .given .1) (c .before .before .before .before .before .before .before .before .read-table .ensures .0) (c .before .before .before .before .before .before .before .before .read-table .ensures .1) in
-    let b = table-was-read _ _ _ _ _ (c .before .before .belt-carbon .given .1) (c .before .before .before .before .read-table2 .ensures .0) (c .before .before .before .before .read-table2 .ensures .1) in
-    (c .read-records .ensures .0 ∙ belt-yes (entry (c .before .before .before .before .before .before .before .before .before .before .args .factors .now)) (c .before .before .before .before .before .before .before .before .before .before .args .year) (c .before .before .before .before .before .before .before .before .before .before .args .days) (c .before .before .before .before .before .before .before .before .before .before .args .project .0) (c .before .before .before .before .before .before .before .before .before .before .args .belt .0) (drop (c .before .before .before .before .before .before .before .before .before .before .args .at) (c .before .before .before .before .before .before .before .before .before .before .args .s .now)) _ _ (p .0) _ _ (b .0), records-keep (c .before .before .before .before .before .before .before .before .before .before .args .s .now) (c .read-records .result) _ _ _ _ _ (c .read-records .ensures .0) (c .read-records .ensures .1) (p .2) (b .2))
+returns-3 c =
+    let r = c .before in
+    let k = at-belt r .before in
+    let a = at-project k .before .before .args in
+    let p = table-was-read _ _ _ _ _ (k .before .carbon .given .1) (at-project k .read-table .ensures .0) (at-project k .read-table .ensures .1) in
+    let b = table-was-read _ _ _ _ _ (r .before .belt-carbon .given .1) (at-belt r .read-table2 .ensures .0) (at-belt r .read-table2 .ensures .1) in
+    let yes = belt-yes (entry (a .factors .now)) (a .year) (a .days) (a .project .0) (a .belt .0) (drop (a .at) (a .s .now)) in
+    let (says, inside) = c .read-records .ensures in
+    (says ∙ yes _ _ (p .0) _ _ (b .0), records-keep (a .s .now) (c .read-records .result) _ _ _ _ _ says inside (p .2) (b .2))
 
 pub read-tables-spec : {M : Type 1} → statement M
 read-tables-spec =

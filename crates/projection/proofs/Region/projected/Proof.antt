@@ -13,63 +13,30 @@ use borrow.Author.Needs.{needs}
 use Rattle.arithmetic.specs.Sum.{sum, listed}
 use Rattle.arithmetic.proofs.SumLaws.{sum-none, sum-next}
 use Rattle.classes.specs.declared.AreaUnits.{AreaUnits}
+use Rattle.classes.specs.declared.CarbonUnits.{CarbonUnits}
 use Rattle.classes.specs.Matrix.{entry}
-use Rattle.projection.specs.declared.Region.{Region}
 use Rattle.projection.specs.declared.Projected.{Projected}
-use Rattle.projection.specs.Projection.{area, areaTotal, nextArea, nextAreas, inflowCarbon, lostArea, projectedRegion, projectedYear, SmallRegion, RowsWithin, FactorsFit}
-use Rattle.projection.proofs.ProjectionLaws.{areas-kept, columns-le, carbon-columns}
+use Rattle.projection.specs.Projection.{areaTotal, nextArea, nextAreas, inflowCarbon, lostArea, projectedRegion, projectedYear}
+use Rattle.projection.proofs.ProjectionLaws.{fitting-le, areas-kept, columns-le, carbon-columns}
 use Rattle.projection.proofs.Region.projected.Statement.{statement}
 use Rattle.projection.proofs.Region.projected.Tie as tie
 
 abbrev nextUnits : List AreaUnits → List ℕ → ℕ → AreaUnits
 nextUnits areas matrix j = record { 0 = nextArea areas matrix j }
 
-within : (r : Region) → SmallRegion r → areaTotal (r .areas) ≤ 1000000000000
-within r h = omega arith
-
--- one turn: the carbon c of column j
-column : (r : Region) (matrix factors : List ℕ) (j t c : ℕ) → SmallRegion r → RowsWithin matrix → FactorsFit factors → j < 12 → t ≡ sum j (inflowCarbon (entry factors) (r .areas) matrix) → c ≡ inflowCarbon (entry factors) (r .areas) matrix j
-    → (t + c ≡ sum (j + 1) (inflowCarbon (entry factors) (r .areas) matrix)) × (t + c ≤ 1000000000000 * 65535)
-column r matrix factors j t c small rows fit hj p q =
-    let carbon = inflowCarbon (entry factors) (r .areas) matrix in
-    let next = sum-next j carbon in
-    let le : (a b : ℕ) → entry factors a b ≤ 65535 = λ a b. omega (arith, fit (12 * a + b)) in
-    (omega (arith, next), omega (arith, next, columns-le (r .areas) matrix rows (entry factors) 65535 le (j + 1) (omega arith), mul-le-mul-right 65535 (within r small)))
-
--- all columns, and the totals b before and a after
-whole-year : (r : Region) (matrix factors : List ℕ) (next : List AreaUnits) (carbon b a : ℕ) → RowsWithin matrix → next ≡ nextAreas (r .areas) matrix → carbon ≡ sum 12 (inflowCarbon (entry factors) (r .areas) matrix) → b ≡ areaTotal (r .areas) → a ≡ areaTotal next
-    → _≡_ {A = Projected} (record { region = record { areas = next; balance = record { 0 = r .balance .0 + (b - a) } }; carbon = record { 0 = carbon } }) (projectedYear (entry factors) matrix r)
-unfolding projectedYear projectedRegion
-whole-year r matrix factors next carbon b a rows p q e f =
-    let lost : b - a ≡ lostArea (r .areas) matrix = omega (arith, areas-kept (r .areas) matrix rows, f ∙ ap areaTotal p) in
-    rw (lost, p, q ∙ carbon-columns (entry factors) (r .areas) matrix)
-
 abbrev Inv-loop : tie.InvT-loop
-Inv-loop self matrix factors areas next₀ carbon₀ j₀ next carbon j = (j ≤ 12) × (length next ≡ 12) × (take j next ≡ listed j (nextUnits areas matrix)) × (carbon ≡ sum j (inflowCarbon (entry factors) areas matrix))
+Inv-loop self matrix factors areas next₀ carbon₀ j₀ next carbon j =
+    (j ≤ 12) × (length next ≡ 12) × (take j next ≡ listed j (nextUnits areas matrix)) × (carbon .0 ≡ sum j (inflowCarbon (entry factors) areas matrix))
 
 abbrev μ-loop : tie.MeasureT-loop
 μ-loop self matrix factors areas next₀ carbon₀ j₀ next carbon j = 12 - j
-
-after-column : (c : tie.After-struct-known Inv-loop μ-loop)
-    → (c .before .before .before .before .before .loop .carbon + c .before .before .before .flows-into .result .carbon .0 ≡ sum (c .before .before .before .before .before .loop .j + 1) (inflowCarbon (entry (c .before .before .before .before .before .before .before .args .factors .now)) (c .before .before .before .before .before .before .before .args .self .areas) (c .before .before .before .before .before .before .before .args .matrix .now))) × (c .before .before .before .before .before .loop .carbon + c .before .before .before .flows-into .result .carbon .0 ≤ 1000000000000 * 65535)
-after-column c =
-    let a = c .before .before .before .before .before .before .before .args in
-    let pre = c .before .before .before .before .before .before .before .pre in
-    column (a .self) (a .matrix .now) (a .factors .now) (c .before .before .before .before .before .loop .j) _ _ (pre .0) (pre .1 .0) (pre .1 .1) (omega arith) (c .before .before .before .before .before .loop .inv .3) (c .before .before .before .flows-into .ensures .1)
-
-all-columns : (c : tie.After-loop Inv-loop μ-loop) → c .before .loop .next ≡ nextAreas (c .before .before .before .args .self .areas) (c .before .before .before .args .matrix .now)
-unfolding nextAreas
-all-columns c =
-    let l = c .before .loop in
-    let e : l .j ≡ 12 = omega arith in
-    sym (take-all (l .j) (l .next) (omega arith)) ∙ l .inv .2 ∙ ap (λ (n : ℕ). listed n (nextUnits (c .before .before .before .args .self .areas) (c .before .before .before .args .matrix .now))) e
 
 loop-holds : tie.Need-loop-holds Inv-loop μ-loop
 unfolding listed
 loop-holds c = (search needs, refl, refl, sym (sum-none _))
 
 flows-into-requires : tie.Need-flows-into-requires Inv-loop μ-loop
-flows-into-requires c κs = let pre = c .before .before .before .pre in (within (c .before .before .before .args .self) (pre .0), (pre .1 .0, (pre .1 .1, omega arith)))
+flows-into-requires c κs = let (small, (rows, fit)) = c .before .before .before .pre in (omega arith, (rows, (fit, omega arith)))
 
 mul-next : tie.Need-mul-next Inv-loop μ-loop
 mul-next c = search needs
@@ -77,8 +44,16 @@ mul-next c = search needs
 array-set-from-next : tie.Need-array-set-from-next Inv-loop μ-loop
 array-set-from-next c = search needs
 
-add-carbon : tie.Need-add-carbon Inv-loop μ-loop
-add-carbon c = omega (arith, after-column c .1)
+plus-requires : tie.Need-plus-requires Inv-loop μ-loop
+plus-requires c κs =
+    let at-loop = c .before .before .before in
+    let at-start = at-loop .before .before in
+    let a = at-start .args in
+    let (small, (rows, fit)) = at-start .pre in
+    let carbon = inflowCarbon (entry (a .factors .now)) (a .self .areas) (a .matrix .now) in
+    let most = columns-le (a .self .areas) (a .matrix .now) rows (entry (a .factors .now)) 65535 (fitting-le (a .factors .now) fit) in
+    let total : areaTotal (a .self .areas) ≤ 1000000000000 = omega arith in
+    omega (arith, c .before .flows-into .ensures .1, sum-next (at-loop .loop .j) carbon, most (at-loop .loop .j + 1) (omega arith), mul-le-mul-right 65535 total)
 
 add-j : tie.Need-add-j Inv-loop μ-loop
 add-j c = search needs
@@ -88,30 +63,63 @@ loop-less c = search needs
 
 loop-again : tie.Need-loop-again Inv-loop μ-loop
 unfolding listed
-loop-again c = let l = c .before .before .before .before .before .loop in
-    let r = c .before .before .before .flows-into in
-    let e : r .result .area ≡ nextUnits (c .before .before .before .before .before .before .before .args .self .areas) (c .before .before .before .before .before .before .before .args .matrix .now) (l .j) = ap {B = AreaUnits} (λ (n : ℕ). record { 0 = n }) (r .ensures .0) in (
+loop-again c =
+    let at-column = c .before .before in
+    let at-loop = at-column .before .before in
+    let a = at-loop .before .before .args in
+    let l = at-loop .loop in
+    let r = at-column .flows-into in
+    let e : r .result .area ≡ nextUnits (a .self .areas) (a .matrix .now) (l .j) = ap {B = AreaUnits} (λ (n : ℕ). record { 0 = n }) (r .ensures .0) in (
       search needs,
       length-set (l .next) _ _ ∙ l .inv .1,
       rw (add-one, take-suc-set (l .next) (l .j) (r .result .area) (omega arith), l .inv .2, e),
-      after-column c .0,
+      omega (arith, r .ensures .1, sum-next (l .j) (inflowCarbon (entry (a .factors .now)) (a .self .areas) (a .matrix .now))),
     )
 
+-- the areas after the year, and that they and what rounding lost make up those before it
+all-columns : (c : tie.After-loop Inv-loop μ-loop)
+    → let a = c .before .before .before .args in c .before .loop .next ≡ nextAreas (a .self .areas) (a .matrix .now)
+unfolding nextAreas
+all-columns c =
+    let l = c .before .loop in
+    let e : l .j ≡ 12 = omega arith in
+    sym (take-all 12 (l .next) (omega arith)) ∙ rw e at (l .inv .2)
+
+kept : (c : tie.After-loop Inv-loop μ-loop)
+    → let a = c .before .before .before .args in
+    areaTotal (c .before .loop .next) + lostArea (a .self .areas) (a .matrix .now) ≡ areaTotal (a .self .areas)
+kept c = let at-start = c .before .before .before in rw (all-columns c) (areas-kept _ _ (at-start .pre .1 .0))
+
 area-total-requires : tie.Need-area-total-requires Inv-loop μ-loop
-area-total-requires c κs = within (c .before .before .before .args .self) (c .before .before .before .pre .0)
+area-total-requires c κs = search needs
 
 area-total-requires-2 : tie.Need-area-total-requires-2 Inv-loop μ-loop
-area-total-requires-2 c κs = rw (all-columns (c .before)) (omega (arith, within (c .before .before .before .before .args .self) (c .before .before .before .before .pre .0), areas-kept (c .before .before .before .before .args .self .areas) (c .before .before .before .before .args .matrix .now) (c .before .before .before .before .pre .1 .0)))
+area-total-requires-2 c κs = omega (arith, kept (c .before))
 
-sub-lost : tie.Need-sub-lost Inv-loop μ-loop
-sub-lost c = omega (arith, c .before .before .before .area-total .ensures, c .before .before .area-total2 .ensures ∙ ap areaTotal (all-columns (c .before .before .before .before)), areas-kept (c .before .before .before .before .before .before .before .args .self .areas) (c .before .before .before .before .before .before .before .args .matrix .now) (c .before .before .before .before .before .before .before .pre .1 .0))
+minus-requires : tie.Need-minus-requires Inv-loop μ-loop
+minus-requires c κs = omega (arith, c .before .area-total .ensures, c .area-total2 .ensures, kept (c .before .before))
 
-add-t20 : tie.Need-add-t20 Inv-loop μ-loop
-add-t20 c = search needs
+plus-requires-2 : tie.Need-plus-requires-2 Inv-loop μ-loop
+plus-requires-2 c κs = let at-totals = c .before in omega (arith, c .minus .ensures, at-totals .before .area-total .ensures)
+
+-- the year put together
+whole : {next areas : List AreaUnits} {balance : AreaUnits} {carbon : CarbonUnits} {b k : ℕ} → next ≡ areas → balance .0 ≡ b → carbon .0 ≡ k
+    → _≡_ {A = Projected} (record { region = record { areas = next; balance = balance }; carbon = carbon })
+    (record { region = record { areas = areas; balance = record { 0 = b } }; carbon = record { 0 = k } })
+whole n b k = rw (n, ← b, ← k)
 
 returns : tie.Need-returns Inv-loop μ-loop
-returns c = let e : c .before .before .before .before .before .before .loop .j ≡ 12 = omega arith in
-    whole-year (c .before .before .before .before .before .before .before .before .args .self) (c .before .before .before .before .before .before .before .before .args .matrix .now) (c .before .before .before .before .before .before .before .before .args .factors .now) _ _ _ _ (c .before .before .before .before .before .before .before .before .pre .1 .0) (all-columns (c .before .before .before .before .before)) (rw e at (c .before .before .before .before .before .before .loop .inv .3)) (c .before .before .before .before .area-total .ensures) (c .before .before .before .area-total2 .ensures)
+unfolding projectedYear projectedRegion
+returns c =
+    let at-minus = c .before in
+    let at-totals = at-minus .before in
+    let at-end = at-totals .before .before in
+    let a = at-end .before .before .before .args in
+    let e : at-end .before .loop .j ≡ 12 = omega arith in
+    let lost : c .plus2 .result .0 ≡ a .self .balance .0 + lostArea (a .self .areas) (a .matrix .now) =
+    omega (arith, c .plus2 .ensures, at-minus .minus .ensures, at-totals .before .area-total .ensures, at-totals .area-total2 .ensures, kept at-end) in
+    let carbon = rw e at (at-end .before .loop .inv .3) ∙ carbon-columns (entry (a .factors .now)) (a .self .areas) (a .matrix .now) in
+    whole (all-columns at-end) lost carbon
 
 pub projected-spec : {M : Type 1} → statement M
 projected-spec =
@@ -123,12 +131,12 @@ projected-spec =
     flows-into-requires
     mul-next
     array-set-from-next
-    add-carbon
+    plus-requires
     add-j
     loop-less
     loop-again
     area-total-requires
     area-total-requires-2
-    sub-lost
-    add-t20
+    minus-requires
+    plus-requires-2
     returns)

@@ -1,5 +1,6 @@
 -- `reckoner::Ledger::year` meets its contract: the year is reckoned, the piece ends there, and the ledger takes its figures.
 -- Assumes nothing.
+use mathlib.Core.Path.{refl}
 use native.Mathlib.Omega.{arith}
 use borrow.Author.Needs.{needs}
 use Rattle.wire.specs.Bytes.{Bytes}
@@ -21,11 +22,8 @@ tables c = record { of-factors = c .before .before .emission-factors .ensures; o
 lent : (c : tie.After-counted-factors) → Bytes (at-start c .args .piece .now)
 lent c k = c .before .before .before .before .before .before .before .before .shared-slice-known .given k .fits
 
-emission-factors-requires : tie.Need-emission-factors-requires
-emission-factors-requires c κs = search needs
-
-counted-factors-requires : tie.Need-counted-factors-requires
-counted-factors-requires c κs = search needs
+fill-factors-requires : tie.Need-fill-factors-requires
+fill-factors-requires c κs = (refl, refl)
 
 step-requires : tie.Need-step-requires
 step-requires c κs =

@@ -1,0 +1,253 @@
+/* The yardstick of the benchmark: the same steps as tests/plain.c, written for speed. Loads and stores are byte-swapped
+ * words; no product and no division is wider than 64 bits; a table is weighed as it is read, a row of twelve at a time,
+ * tested once for each row; no table is copied. It is not proved: tests/compare.c compares it as it does the plain one. */
+#include "plain.h"
+#include <string.h>
+
+#define INLINE static inline __attribute__((always_inline))
+#define UNROLL _Pragma("GCC unroll 12")
+#define MOST 1000000000000u
+
+typedef const uint8_t *bytes;
+
+static const uint32_t stock[12] = { 9130, 13511, 5654, 4821, 0, 8415, 9240, 3986, 4265, 5654, 5654, 0 };
+static const uint32_t lost[12] = { 24900, 30900, 0, 34500, 14100, 10000, 41700, 50600, 97200, 116900, 0, 0 };
+static const uint32_t fuel[3] = { 318630, 306999, 310059 }, lime[3] = { 132, 143, 220 };
+static const uint32_t nitrogen[2][3] = { { 1325, 1425, 1225 }, { 625, 725, 525 } };
+
+INLINE uint32_t field16(bytes s) { return (uint32_t)s[0] << 8 | s[1]; }
+INLINE uint32_t field32(bytes s) { uint32_t v; memcpy(&v, s, 4); return __builtin_bswap32(v); }
+INLINE uint64_t field64(bytes s) { uint64_t v; memcpy(&v, s, 8); return __builtin_bswap64(v); }
+INLINE uint64_t up(uint64_t x, uint64_t by) { return (x + by - 1) / by; }
+
+#define MARK(a, b) ((uint32_t)(a) << 8 | (b))
+
+/* 0 where the mark and its fields stand at s, otherwise the fault */
+INLINE uint32_t begin(bytes s, bytes end, uint32_t mark, size_t fields)
+{
+    size_t left = (size_t)(end - s);
+    if (left < 2)
+        return 1;
+    if (field16(s) != mark)
+        return 2;
+    return left - 2 < fields;
+}
+
+/* PA or DA: twelve areas, and their sum where it is sound */
+INLINE uint32_t areas(bytes s, uint64_t area[12], uint64_t *sum)
+{
+    uint64_t all = 0;
+    int above = 0;
+    for (int i = 0; i < 12; i++) {
+        area[i] = field64(s + 8 * i);
+        above |= area[i] > MOST;
+        all += area[i];
+    }
+    *sum = all;
+    return above | (all > MOST);
+}
+
+/* a table of conversions, weighed row by row; 7 where its sum is not the starting area */
+INLINE uint32_t monitored(bytes s, uint64_t start, uint64_t counted[12][12], uint64_t *emitted)
+{
+    uint64_t sum = 0, carbon = 0;
+    for (int i = 0; i < 12; i++) {
+        uint64_t cell[12], row = 0, weight = 0;
+        int above = 0;
+        UNROLL for (int j = 0; j < 12; j++)
+            cell[j] = field64(s + 96 * i + 8 * j);
+        UNROLL for (int j = 0; j < 12; j++)
+            above |= cell[j] > MOST;
+        UNROLL for (int j = 0; j < 12; j++) {
+            row += cell[j];
+            weight += cell[j] * counted[i][j];
+        }
+        if (above)
+            return 7;
+        sum += row;
+        carbon += weight;
+    }
+    *emitted = up(carbon * 11, 300);
+    return sum != start ? 7 : 0;
+}
+
+/* a year's projection: the areas and the balance move on, and the carbon is answered */
+INLINE uint64_t project(uint64_t area[12], uint64_t *balance, uint64_t matrix[12][12], uint64_t factors[12][12])
+{
+    uint64_t next[12] = { 0 }, carbon = 0, before = 0, after = 0;
+    for (int i = 0; i < 12; i++)
+        for (int j = 0; j < 12; j++) {
+            uint64_t flow = area[i] * matrix[i][j] / 1000000;
+            carbon += flow * factors[i][j];
+            next[j] += flow;
+        }
+    for (int i = 0; i < 12; i++) {
+        before += area[i];
+        after += next[i];
+        area[i] = next[i];
+    }
+    *balance += before - after;
+    return carbon;
+}
+
+/* carbon × 11 × d ÷ (300 × D), by a constant D */
+INLINE uint64_t by_days(uint64_t carbon, uint64_t d, uint64_t D)
+{
+    return carbon / (300 * D) * (11 * d) + carbon % (300 * D) * (11 * d) / (300 * D);
+}
+
+INLINE uint64_t reference(uint64_t carbon, uint64_t d, int leap)
+{
+    return leap ? by_days(carbon, d, 366) : by_days(carbon, d, 365);
+}
+
+/* the activity records from s on: their emissions, and the place after the last; or the fault */
+INLINE uint32_t activities(bytes *at, bytes end, uint64_t *grams)
+{
+    bytes s = *at;
+    uint64_t sum = 0;
+    for (int before = 0;; before++) {
+        size_t left = (size_t)(end - s);
+        uint32_t mark = left < 2 ? 0 : field16(s);
+        if (mark != MARK('F', 'U') && mark != MARK('V', 'E') && mark != MARK('N', 'I') && mark != MARK('L', 'I'))
+            break;
+        if (before == 60)
+            return 9;
+        if (left < (mark == MARK('V', 'E') ? 15 : mark == MARK('N', 'I') ? 14 : 11))
+            return 1;
+        uint32_t kind = s[2] - 1u;
+        if (kind > 2)
+            return 8;
+        if (mark == MARK('N', 'I')) {
+            uint64_t crop = s[3] - 1u, g = field64(s + 4), content = field16(s + 12);
+            if (crop > 1 || g > 10000000000 || content > 10000)
+                return 8;
+            uint64_t x = g * content * nitrogen[crop][kind];
+            sum += x / 7000000000 * 3278 + up(x % 7000000000 * 3278, 7000000000);
+            s += 14;
+            continue;
+        }
+        uint64_t g;
+        if (mark == MARK('V', 'E')) {
+            uint64_t count = field32(s + 3), average = field32(s + 7), each = field32(s + 11);
+            if ((count > 1000) | (average > 1000000) | (each > 100000))
+                return 8;
+            g = count * average * each;
+            s += 15;
+        } else {
+            g = field64(s + 3);
+            s += 11;
+        }
+        if (g > MOST)
+            return 8;
+        sum += mark == MARK('L', 'I') ? up(g * lime[kind], 300) : up(g * fuel[kind], 100000);
+    }
+    *at = s;
+    *grams = sum;
+    return 0;
+}
+
+/* both tables of factors */
+INLINE void weights(uint64_t factors[12][12], uint64_t counted[12][12], uint32_t option)
+{
+    for (int i = 0; i < 12; i++)
+        for (int j = 0; j < 12; j++) {
+            factors[i][j] = stock[i] > stock[j] && j != 9 && j != 10 ? stock[i] - stock[j] : 0;
+            counted[i][j] = option == 2 || j == 11 ? factors[i][j] : 0;
+        }
+}
+
+/* MP under Option 2, otherwise Option 1's matrix; 5 where a row's sum is wrong */
+INLINE uint32_t probabilities(bytes s, uint32_t option, uint64_t matrix[12][12])
+{
+    for (int i = 0; i < 12; i++) {
+        uint64_t row = 0;
+        for (int j = 0; j < 12; j++)
+            if (option == 2)
+                row += matrix[i][j] = field32(s + 48 * i + 4 * j);
+            else
+                matrix[i][j] = j == i ? 1000000 - lost[i] : j == 11 ? lost[i] : 0;
+        if (option == 2 && row != 1000000)
+            return 5;
+    }
+    return 0;
+}
+
+uint32_t plain_reckon(const uint8_t *dossier, size_t dossier_len, uint8_t *result, size_t result_len)
+{
+    bytes s = dossier, end = dossier + dossier_len;
+    uint64_t area[2][12], start[2], balance[2] = { 0, 0 };
+    uint64_t matrix[12][12], factors[12][12], counted[12][12];
+    uint32_t fault;
+    int64_t out[8 * 20 + 4], total = 0;
+
+    if ((fault = begin(s, end, MARK('H', 'D'), 4)))
+        return fault;
+    uint32_t option = s[2], first = field16(s + 3), n = s[5];
+    if (option < 1 || option > 2 || first < 2000 || first > 2200 || n < 1 || n > 20)
+        return 3;
+    s += 6;
+    for (int r = 0; r < 2; r++, s += 98) {
+        if ((fault = begin(s, end, r ? MARK('D', 'A') : MARK('P', 'A'), 96)))
+            return fault;
+        if (areas(s + 2, area[r], &start[r]) || (r == 0 && start[r] == 0))
+            return 4;
+    }
+    bytes rows = s;
+    if (option == 2) {
+        if ((fault = begin(s, end, MARK('M', 'P'), 576)))
+            return fault;
+        rows = s + 2;
+        s += 578;
+    }
+    if ((fault = probabilities(rows, option, matrix)))
+        return fault;
+    weights(factors, counted, option);
+    for (uint32_t y = 0; y < n; y++) {
+        if ((fault = begin(s, end, MARK('Y', 'R'), 4)))
+            return fault;
+        uint32_t year = field16(s + 2), d = field16(s + 4);
+        int leap = year % 4 == 0 && (year % 100 != 0 || year % 400 == 0);
+        if (year != first + y || d < 1 || d > 365u + (uint32_t)leap)
+            return 6;
+        s += 6;
+        uint64_t emitted[2], grams;
+        for (int r = 0; r < 2; r++, s += 1154) {
+            if ((fault = begin(s, end, r ? MARK('C', 'D') : MARK('C', 'P'), 1152)))
+                return fault;
+            if ((fault = monitored(s + 2, start[r], counted, &emitted[r])))
+                return fault;
+        }
+        if ((fault = activities(&s, end, &grams)))
+            return fault;
+        int64_t *f = out + 8 * y;
+        f[0] = (int64_t)reference(project(area[0], &balance[0], matrix, factors), d, leap);
+        f[1] = (int64_t)emitted[0];
+        f[2] = (int64_t)grams;
+        f[3] = (int64_t)emitted[1];
+        f[4] = (int64_t)reference(project(area[1], &balance[1], matrix, factors), d, leap);
+        f[5] = f[3] > f[4] ? f[3] - f[4] : 0;
+        f[6] = f[0] - f[1] - f[2] - f[5];
+        f[7] = f[6] >= 0 ? f[6] * 4 / 5 : -((-f[6] * 4 + 4) / 5);
+        total += f[7];
+    }
+    size_t left = (size_t)(end - s);
+    if (left >= 2 && field16(s) == MARK('Y', 'R'))
+        return left < 6 ? 1 : 6;
+    if ((fault = begin(s, end, MARK('E', 'N'), 0)))
+        return fault;
+    if (left != 2)
+        return 2;
+    if (result_len < 64 * (size_t)n + 32)
+        return 10;
+    int64_t *f = out + 8 * n;
+    f[0] = total;
+    f[1] = total > 0 ? total / 1000000 : 0;
+    f[2] = (int64_t)balance[0];
+    f[3] = (int64_t)balance[1];
+    for (uint32_t k = 0; k < 8 * n + 4; k++) {
+        uint64_t v = __builtin_bswap64((uint64_t)out[k]);
+        memcpy(result + 8 * k, &v, 8);
+    }
+    return 0;
+}
