@@ -38,6 +38,9 @@ pub record Tables (t : Terms) (factors counted : List ℕ) : Type 0 where
   pub of-factors : factors ≡ tableOf (emissionFactor (t .stocks))
   pub of-counted : counted ≡ tableOf (countedFactor (t .option) (emissionFactor (t .stocks)))
 
+pub tables : (t : Terms) {factors counted : List ℕ} → (factors ≡ tableOf (emissionFactor (t .stocks))) × (counted ≡ tableOf (countedFactor (t .option) (emissionFactor (t .stocks)))) → Tables t factors counted
+tables t w = record { of-factors = w .0; of-counted = w .1 }
+
 -- they fit 16 bits, as the stocks do
 pub tables-fit : {t : Terms} {factors counted : List ℕ} → Tables t factors counted → ((i : ℕ) → getD (t .stocks) i 0 ≤ 65535) → FactorsFit factors × FactorsFit counted
 tables-fit {t} w stocks = (rw (w .of-factors) (factors-fit (t .stocks) stocks), rw (w .of-counted) (counted-fit (t .stocks) stocks (t .option)))

@@ -11,7 +11,6 @@ use lib.ListN.{length, take, getD, length-append}
 use lib.Seq.{sets, take-suc, length-take-le}
 use Rattle.arithmetic.proofs.StoreLaws.{sets-append}
 use Rattle.wire.specs.Signed.{figureBytes, figuresBytes, written}
-use Rattle.wire.proofs.StoreLaws.{sets-append}
 use Rattle.wire.proofs.SignedLaws.{length-figure, written-next}
 use Rattle.figures.specs.declared.Figures.{Figures}
 use Rattle.figures.specs.Figures.{tonnesOf}

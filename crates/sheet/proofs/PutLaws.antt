@@ -6,7 +6,7 @@ use mathlib.Core.List.{List, [], _∷_, _++_}
 use native.Mathlib.Omega.{arith}
 use lib.ListN.{length, getD, set, take, drop, length-append, drop-of-length-le}
 use lib.Seq.{sets, sets-eq, length-sets, drop-cons, length-take-le}
-use Rattle.wire.proofs.StoreLaws.{sets-append}
+use Rattle.arithmetic.proofs.StoreLaws.{sets-append}
 use Rattle.sheet.specs.Put.{Put, Written}
 
 -- of a text, what is left to write from a place on: writing it gives what writing all of the text gives

@@ -1,4 +1,3 @@
 pub mod BytesLaws
 pub mod FieldLaws
 pub mod SignedLaws
-pub mod StoreLaws

@@ -53,17 +53,16 @@ returns-3 c =
     let at-project = c .before in
     let at-stocks = at-project .before in
     let at-answer = at-stocks .before .before in
-    let at-matrix = at-answer .before .before .before in
-    let at-found = at-matrix .before .before in
+    let at-matrix = at-answer .before .before in
+    let at-found = at-matrix .before .before .before in
     let at-areas = at-found .before .before .before in
     let at-start = at-areas .before .before in
     let b = rw (at-found .found2 .given .1) at (at-areas .read-areas .ensures) in
     let q = rw (at-answer .answer2 .given .1) at (at-matrix .read-matrix-under .ensures) in
     let a = at-start .args in
     let belt = at-areas .read-areas .result .areas in
-    let m = matrixOf (a .h .option) (at-matrix .read-matrix-under .result .matrix) in
-    let of-terms = settled-terms _ (a .areas) belt m _ _ _ _ (at-stocks .carbon-stocks .ensures) (q .1 .1) (at-start .pre .1) (b .1 .1) in
-    let of-state = settled-state _ (a .areas) belt m _ _ (at-project .at-inception .ensures) (c .at-inception2 .ensures) in
+    let of-terms = settled-terms _ (a .areas) belt (matrixOf (a .h .option) _) _ _ _ _ (at-stocks .carbon-stocks .ensures) (q .1 .1) (at-start .pre .1) (b .1 .1) in
+    let of-state = settled-state _ (a .areas) belt (matrixOf (a .h .option) _) _ _ (at-project .at-inception .ensures) (c .at-inception2 .ensures) in
     (opening-read _ _ _ _ _ (b .0) _ _ _ _ (q .0) of-terms of-state, q .1 .0)
 
 carbon-stocks-requires : tie.Need-carbon-stocks-requires

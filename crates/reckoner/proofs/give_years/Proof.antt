@@ -1,11 +1,11 @@
 -- `reckoner::give_years` meets its contract: each turn gives the ledger one more year; then EN.
 -- Assumes nothing.
-use mathlib.Core.Path.{_∙_}
+use mathlib.Core.Path.{refl, _∙_}
 use Prim.Native.Nat.{_-_}
 use borrow.Author.Needs.{needs}
 use Rattle.wire.specs.Bytes.{Bytes}
 use Rattle.reckoner.proofs.Invariant.{state-kept}
-use Rattle.reckoner.proofs.YearLaws.{Tables, factors-fit, counted-fit}
+use Rattle.reckoner.proofs.YearLaws.{tables, tables-fit}
 use Rattle.reckoner.proofs.DossierLaws.{SoFar, none-yet, year-fault, one-more, end-fault, ended}
 use Rattle.reckoner.proofs.give_years.Statement.{statement}
 use Rattle.reckoner.proofs.give_years.Tie as tie
@@ -17,23 +17,17 @@ abbrev μ-loop : tie.MeasureT-loop
 μ-loop s from ledger₀ start beltstart matrix factors counted years at₀ ledger at = years - ledger .given
 
 -- from the loop back to the tables of factors, and from these to the start
-abbrev at-tables : tie.At-loop Inv-loop μ-loop → tie.After-counted-factors Inv-loop μ-loop
+abbrev at-tables : tie.At-loop Inv-loop μ-loop → tie.After-fill-factors Inv-loop μ-loop
 at-tables c = c .before .before
 
-abbrev at-start : tie.After-counted-factors Inv-loop μ-loop → tie.Start Inv-loop μ-loop
+abbrev at-start : tie.After-fill-factors Inv-loop μ-loop → tie.Start Inv-loop μ-loop
 at-start c = c .before .before .before .before .before .before .before .before .before .before
 
-tables : (c : tie.After-counted-factors Inv-loop μ-loop) → Tables (at-start c .args .t3 .terms) (c .before .before .emission-factors .result) (c .counted-factors .result)
-tables c = record { of-factors = c .before .before .emission-factors .ensures; of-counted = c .counted-factors .ensures }
-
-lent : (c : tie.After-counted-factors Inv-loop μ-loop) → Bytes (at-start c .args .s .now)
+lent : (c : tie.After-fill-factors Inv-loop μ-loop) → Bytes (at-start c .args .s .now)
 lent c k = c .before .before .before .before .before .before .before .before .before .shared-slice-known .given k .fits
 
-emission-factors-requires : tie.Need-emission-factors-requires Inv-loop μ-loop
-emission-factors-requires c κs = search needs
-
-counted-factors-requires : tie.Need-counted-factors-requires Inv-loop μ-loop
-counted-factors-requires c κs = search needs
+fill-factors-requires : tie.Need-fill-factors-requires Inv-loop μ-loop
+fill-factors-requires c κs = (refl, refl)
 
 loop-holds : tie.Need-loop-holds Inv-loop μ-loop
 loop-holds c = let start = at-start (c .before) in none-yet _ _ _ (start .pre .1) (start .pre .0)
@@ -41,10 +35,10 @@ loop-holds c = let start = at-start (c .before) in none-yet _ _ _ (start .pre .1
 step-requires : tie.Need-step-requires Inv-loop μ-loop
 step-requires c κs =
     let at-loop = c .before .before .before .before .before in
-    let t = tables (at-tables at-loop) in
+    let t = at-tables at-loop in
     let f = at-loop .loop .inv in
     let k = rw (f .terms) at (f .kept) in
-    ((f .inside, k .project .small, k .belt .small), (state-kept _ (f .kept), (k .rows, (factors-fit t (k .stocks), counted-fit t (k .stocks)))))
+    ((f .inside, k .project .small, k .belt .small), (state-kept _ (f .kept), (k .rows, tables-fit (tables (at-start t .args .t3 .terms) (t .fill-factors .ensures)) (k .stocks))))
 
 enum-known-answer : tie.Need-enum-known-answer Inv-loop μ-loop
 enum-known-answer c = search needs
@@ -59,7 +53,7 @@ returns c =
     let in-loop = at-step .before .before .before .before .before in
     let at-loop = in-loop .before in
     c .refused-opening .ensures
-    ∙ year-fault _ _ _ _ _ (at-loop .loop .inv) (in-loop .loop-test .taken) _ _ (tables (at-tables at-loop)) _ (at-step .step .ensures .0) _ (at-answer .answer .given .1)
+    ∙ year-fault _ _ _ _ _ (at-loop .loop .inv) (in-loop .loop-test .taken) _ _ (tables _ (at-tables at-loop .fill-factors .ensures)) _ (at-step .step .ensures .0) _ (at-answer .answer .given .1)
 
 enum-known-answer-2 : tie.Need-enum-known-answer-2 Inv-loop μ-loop
 enum-known-answer-2 c = search needs
@@ -83,7 +77,7 @@ loop-again c =
     let in-loop = at-step .before .before .before .before .before in
     let at-loop = in-loop .before in
     let t = at-tables at-loop in
-    one-more _ _ _ _ _ (at-loop .loop .inv) (in-loop .loop-test .taken) _ _ (tables t) _ (at-step .step .ensures .0) (lent t) (at-step .step .ensures .1) _ (at-answer .answer2 .given .1)
+    one-more _ _ _ _ _ (at-loop .loop .inv) (in-loop .loop-test .taken) _ _ (tables _ (t .fill-factors .ensures)) _ (at-step .step .ensures .0) (lent t) (at-step .step .ensures .1) _ (at-answer .answer2 .given .1)
 
 read-end-requires : tie.Need-read-end-requires Inv-loop μ-loop
 read-end-requires c κs = search needs
@@ -109,8 +103,7 @@ give-years-spec =
     (tie.spec
     Inv-loop
     μ-loop
-    emission-factors-requires
-    counted-factors-requires
+    fill-factors-requires
     loop-holds
     step-requires
     enum-known-answer
