@@ -52,11 +52,14 @@ denominator-pos (Lime material grams) = lit≤ tt
 
 pub grams-le : (a : Activity) → ActivityInRange a → activityGrams a ≤ 4000000000000
 unfolding activityGrams numerator denominator all
-grams-le (Fuel kind grams) h = fuel-le (h .amount) (factor-le fuelFactor 318630 tt kind (h .kinds))
-grams-le (Vehicles kind count average rate) h = fuel-le (h .product) (factor-le fuelFactor 318630 tt kind (h .kinds))
+grams-le (Fuel kind grams) h = fuel-le (omega arith) (factor-le fuelFactor 318630 tt kind (h .0))
+grams-le (Vehicles kind count average rate) h = fuel-le (omega arith) (factor-le fuelFactor 318630 tt kind (h .0))
 grams-le (Nitrogen source crop grams content) h =
-    rw (mul-assoc (grams * content) (n2oShare source crop) 3278) (nitrogen-le (omega (arith, mul-le-mul (h .amount) (h .share))) (omega (arith, n2oShare-le source crop (h .sources) (h .crops))))
-grams-le (Lime material grams) h = lime-le (h .amount) (factor-le limeFactor 220 tt material (h .materials))
+    let g : grams ≤ 10000000000 = omega arith in
+    let c : content ≤ 10000 = omega arith in
+    rw (mul-assoc (grams * content) (n2oShare source crop) 3278)
+    (nitrogen-le (omega (arith, mul-le-mul g c)) (omega (arith, n2oShare-le source crop (h .0) (h .1 .0))))
+grams-le (Lime material grams) h = lime-le (omega arith) (factor-le limeFactor 220 tt material (h .0))
 
 pub emissions-le : (records : List Activity) → ActivitiesInRange records → activityEmissions records ≤ 4000000000000 * length records
 unfolding activityEmissions

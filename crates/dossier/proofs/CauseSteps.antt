@@ -34,6 +34,10 @@ seq {A} {B} {r} {q} x y s n e = go (r s) refl e
     go (refused m) h e = said m n e (x s m h)
     go (accepted a t) h e = y t n e
 
+pub one-of : {A : Type 0} {r q : Reader A} (b : Bool) → Numbered r → Numbered q → Numbered (cond b r q)
+one-of true x y = x
+one-of false x y = y
+
 pub choice : {A : Type 0} {r q : Reader A} (kind : ℕ → Bool) → Numbered r → Numbered q → Numbered (upon kind r q)
 unfolding upon
 choice {A} {r} {q} kind x y s n e = go (stands kind s) e
@@ -50,7 +54,7 @@ pub refusal : {A : Type 0} (m : ℕ) → Cause m → Numbered (refuse {A = A} m)
 unfolding refuse
 refusal m c s n e = said m n e c
 
--- a test, with m on either side
+-- a test, with m on one-of side
 tested : {A : Type 0} (b : Bool) (m : ℕ) (j : Judged A) (n : ℕ) → Cause m → (j ≡ refused n → Cause n) → cond b (refused m) j ≡ refused n → Cause n
 tested true m j n c f e = said m n e c
 tested false m j n c f e = f e
@@ -63,7 +67,7 @@ pub marks : (m : ℕ) → Numbered (mark m)
 unfolding mark
 marks m s n e = tested (ltb (length s) 2) 1 _ n (omega arith) (passed (eqb (number (take 2 s)) m) 2 _ n (omega arith) (never tt (drop 2 s) n)) e
 
-presents : (k : ℕ) → Numbered (present k)
+pub presents : (k : ℕ) → Numbered (present k)
 unfolding present
 presents k s n e = tested (ltb (length s) k) 1 _ n (omega arith) (never tt s n) e
 

@@ -7,14 +7,16 @@ use mathlib.Core.List.{List, [], _∷_, _++_}
 use native.Mathlib.Omega.{arith}
 use lib.Dec.{eqb}
 use Rattle.activity.specs.declared.Activity.{Activity}
+use Rattle.activity.specs.Activity.{Range, ranges}
 use Rattle.figures.specs.Year.{Year}
-use Rattle.dossier.specs.Marks.{FU, VE, NI, YR, EN}
+use Rattle.dossier.specs.Marks.{YR, EN}
+use Rattle.dossier.specs.Layouts.{Made, Layout, layouts}
 use Rattle.dossier.specs.Records.{Due, next}
-use Rattle.dossier.specs.Reader.{_>>=_, give, is, within}
-use Rattle.dossier.specs.JudgingRecords.{head, areas, rows, matrix, matrixUnder, conversions, fuel, vehicles, nitrogen, lime, activityMark, activity}
+use Rattle.dossier.specs.Reader.{_>>=_, give, is}
+use Rattle.dossier.specs.JudgingRecords.{head, areas, rows, matrix, matrixUnder, conversions, inRange, madeFrom, fieldsOf, rowUnder, activityMark, activityUnder, activity}
 use Rattle.dossier.specs.Judging.{opening, run, activities, noneLeft, yearDue, year, end, years, dossier, openingPiece, yearPiece}
 use Rattle.dossier.proofs.Refusals.{Numbered}
-use Rattle.dossier.proofs.CauseSteps.{bind, seq, choice, given, refusal, marks, begins, a-field, some-fields, withins, equals, nothings, piece-ends}
+use Rattle.dossier.proofs.CauseSteps.{bind, seq, one-of, choice, given, refusal, marks, presents, begins, a-field, some-fields, withins, equals, nothings, piece-ends}
 
 -- ---- the records
 heads : Numbered head
@@ -48,18 +50,24 @@ some-conversions : (m settledTotal : ℕ) → Numbered (conversions m settledTot
 unfolding conversions
 some-conversions m settledTotal = seq (begins _ _) (bind (some-fields _ _) (λ xs. seq (equals _ _ _ (omega arith)) (given _)))
 
-eights : (low x high : ℕ) → Numbered (within 8 low x high)
-eights low x high = withins 8 low x high (omega arith)
+-- ---- any row of the table of activity records, and any table
+in-range : (rs : List Range) (a : Activity) → Numbered (inRange rs a)
+unfolding inRange
+in-range [] a = given a
+in-range (r ∷ rest) a = seq (withins 8 _ _ _ (omega arith)) (in-range rest a)
+
+made-from : (widths : List ℕ) (made : Made widths) → Numbered (madeFrom widths made)
+made-from [] a = in-range (ranges a) a
+made-from (w ∷ widths) made = bind (a-field w) (λ x. made-from widths (made x))
+
+some-row : (table : List Layout) (m : ℕ) → Numbered (rowUnder table m)
+unfolding fieldsOf
+some-row [] m = refusal 2 (omega arith)
+some-row (l ∷ rest) m = one-of (is (l .mark) m) (seq (presents _) (made-from (l .widths) (l .made))) (some-row rest m)
 
 an-activity : Numbered activity
-unfolding activity fuel vehicles nitrogen lime
-an-activity =
-    choice (is FU) (seq (begins _ _) (bind (a-field _) (λ k. bind (a-field _) (λ g. seq (eights _ _ _) (seq (eights _ _ _) (given _))))))
-    (choice (is VE) (seq (begins _ _) (bind (a-field _) (λ k. bind (a-field _) (λ n. bind (a-field _) (λ d. bind (a-field _) (λ r.
-    seq (eights _ _ _) (seq (eights _ _ _) (seq (eights _ _ _) (seq (eights _ _ _) (seq (eights _ _ _) (given _)))))))))))
-    (choice (is NI) (seq (begins _ _) (bind (a-field _) (λ s. bind (a-field _) (λ c. bind (a-field _) (λ g. bind (a-field _) (λ h.
-    seq (eights _ _ _) (seq (eights _ _ _) (seq (eights _ _ _) (seq (eights _ _ _) (given _))))))))))
-    (seq (begins _ _) (bind (a-field _) (λ m. bind (a-field _) (λ g. seq (eights _ _ _) (seq (eights _ _ _) (given _))))))))
+unfolding activity activityUnder
+an-activity = seq (presents 2) (bind (a-field 2) (some-row layouts))
 
 runs : (k : ℕ) (before : List Activity) → Numbered (run k before)
 unfolding run

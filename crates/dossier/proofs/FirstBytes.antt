@@ -1,6 +1,6 @@
 -- The first 65,536 bytes settle what any bytes are judged to be as a dossier.
 -- Assumes nothing.
-use Prim.Native.Nat.{ℕ, zero, suc, _+_, _*_, _<_, _≤_}
+use Prim.Native.Nat.{ℕ, zero, suc, _+_, _-_, _*_, _<_, _≤_}
 use mathlib.Core.Path.{_≡_, refl, _∙_, ap, sym}
 use mathlib.Core.Bool.{Bool, true, false, cond}
 use mathlib.Core.Option.{none, some}
@@ -11,17 +11,21 @@ use lib.Dec.{ltb, eqb}
 use lib.ListN.{length, take, drop, take-append-drop}
 use lib.Seq.{length-take-le, take-all}
 use Rattle.activity.specs.declared.Activity.{Activity}
+use Rattle.activity.specs.Activity.{Range, ranges}
 use Rattle.figures.specs.Year.{Year}
-use Rattle.wire.specs.Bytes.{Bytes}
-use Rattle.dossier.specs.Marks.{FU, VE, NI, YR, EN}
+use Rattle.wire.specs.Bytes.{Bytes, total}
+use Rattle.dossier.specs.Marks.{YR, EN}
+use Rattle.dossier.specs.Layouts.{Made, Layout, layouts}
 use Rattle.dossier.specs.Records.{Due, next, Dossier}
 use Rattle.dossier.specs.Reader.{Judged, refused, accepted, Reader, _>>=_, _>>_, give, is, begin}
-use Rattle.dossier.specs.JudgingRecords.{head, areas, rows, matrix, matrixUnder, conversions, fuel, vehicles, nitrogen, lime, activityMark, activity}
+use Rattle.dossier.specs.JudgingRecords.{head, areas, rows, matrix, matrixUnder, conversions, inRange, madeFrom, fieldsOf, rowUnder, activityMark, activityUnder, activity}
 use Rattle.dossier.specs.Judging.{opening, run, activities, noneLeft, yearDue, year, end, years, dossier, callNumber}
 use Rattle.wire.proofs.BytesLaws.{bytes-take}
 use Rattle.dossier.proofs.OpeningLaws.{opening-exact}
+use Rattle.dossier.proofs.LayoutLaws.{longestRecord}
+use Rattle.dossier.proofs.ActivityLaws.{AllRight, all-right}
 use Rattle.dossier.proofs.Longest.{longest}
-use Rattle.dossier.proofs.SettleSteps.{andLeft, Settles, bind-alike, bind, seq, more, choice, given, refusal, withins, equals, a-field, some-fields, marks, begins, nothings}
+use Rattle.dossier.proofs.SettleSteps.{andLeft, Settles, bind-alike, bind, seq, more, one-of, choice, given, refusal, withins, equals, a-field, some-fields, marks, presents, begins, nothings}
 
 -- ---- the records: each is settled by its own bytes
 a-record : {A : Type 0} {n : ℕ} {r : Reader A} (m : ℕ) → Settles n r → Settles (2 + n) (begin m n >> r)
@@ -58,34 +62,27 @@ some-conversions : (m settledTotal : ℕ) → Settles 1154 (conversions m settle
 unfolding conversions
 some-conversions m settledTotal = a-record _ (bind (some-fields 144 8) (λ xs. seq (equals _ _ _) (given _)))
 
-a-fuel : Settles 11 fuel
-unfolding fuel
-a-fuel = a-record _ (bind (a-field 1) (λ k. bind (a-field 8) (λ g. seq (withins _ _ _ _) (seq (withins _ _ _ _) (given _)))))
+in-range : (rs : List Range) (a : Activity) → Settles 0 (inRange rs a)
+unfolding inRange
+in-range [] a = given a
+in-range (r ∷ rest) a = seq (withins _ _ _ _) (in-range rest a)
 
-a-vehicles : Settles 15 vehicles
-unfolding vehicles
-a-vehicles =
-    a-record _ (bind (a-field 1) (λ k. bind (a-field 4) (λ n. bind (a-field 4) (λ d. bind (a-field 4) (λ r.
-    seq (withins _ _ _ _) (seq (withins _ _ _ _) (seq (withins _ _ _ _) (seq (withins _ _ _ _) (seq (withins _ _ _ _) (given _))))))))))
+made-from : (widths : List ℕ) (made : Made widths) → Settles (total widths) (madeFrom widths made)
+unfolding total
+made-from [] a = in-range (ranges a) a
+made-from (w ∷ widths) made = bind (a-field w) (λ x. made-from widths (made x))
 
-a-nitrogen : Settles 14 nitrogen
-unfolding nitrogen
-a-nitrogen =
-    a-record _ (bind (a-field 1) (λ s. bind (a-field 1) (λ c. bind (a-field 8) (λ g. bind (a-field 2) (λ h.
-    seq (withins _ _ _ _) (seq (withins _ _ _ _) (seq (withins _ _ _ _) (seq (withins _ _ _ _) (given _)))))))))
+some-row : (table : List Layout) → AllRight table → (m : ℕ) → Settles (longestRecord - 2) (rowUnder table m)
+unfolding fieldsOf
+some-row [] f m = more (refusal 2) (omega arith)
+some-row (l ∷ rest) f m = one-of (is (l .mark) m) (more (presents (made-from (l .widths) (l .made)) (omega arith)) (omega (arith, f .0 .short))) (some-row rest (f .1) m)
 
-a-lime : Settles 11 lime
-unfolding lime
-a-lime = a-record _ (bind (a-field 1) (λ m. bind (a-field 8) (λ g. seq (withins _ _ _ _) (seq (withins _ _ _ _) (given _)))))
-
-an-activity : Settles 15 activity
-unfolding activity
-an-activity =
-    choice (is FU) (more a-fuel (omega arith))
-    (choice (is VE) a-vehicles (choice (is NI) (more a-nitrogen (omega arith)) (more a-lime (omega arith)) (omega arith)) (omega arith)) (omega arith)
+an-activity : Settles longestRecord activity
+unfolding activity activityUnder
+an-activity = presents (bind (a-field 2) (some-row layouts all-right)) (omega arith)
 
 -- k activity records, and the mark after them
-runs : (k : ℕ) (before : List Activity) → Settles (k * 15 + 2) (run k before)
+runs : (k : ℕ) (before : List Activity) → Settles (k * longestRecord + 2) (run k before)
 unfolding run
 runs zero before = choice activityMark (more (refusal 9) (omega arith)) (more (given before) (omega arith)) (omega arith)
 runs (suc k) before =

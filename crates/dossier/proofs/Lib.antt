@@ -6,8 +6,8 @@ pub mod ExactParts
 pub mod RecordLaws
 pub mod MatrixLaws
 pub mod OpeningLaws
+pub mod LayoutLaws
 pub mod ActivityLaws
-pub mod ActivityKinds
 pub mod RunLaws
 pub mod YearLaws
 pub mod DossierLaws

@@ -66,6 +66,10 @@ instead {m = m} x f = record {
   leaves = λ s l h. rw (f s (omega arith)) (x .leaves s l h);
 }
 
+pub one-of : {A : Type 0} {m : ℕ} {r q : Reader A} (b : Bool) → Settles m r → Settles m q → Settles m (cond b r q)
+one-of true x y = x
+one-of false x y = y
+
 either : {A : Type 0} {m : ℕ} {r q : Reader A} (b : Bool) → Settles m r → Settles m q → Settles m (λ s. cond b (r s) (q s))
 either true x y = x
 either false x y = y
@@ -126,6 +130,11 @@ some-fields k w = record {
 pub marks : (m : ℕ) → Settles 2 (mark m)
 unfolding mark field equal _>>=_
 marks m = instead (bind (a-field 2) (λ x. equals 2 x m)) (λ s h. rw (le-ltb _ _ h))
+
+-- bytes present are left to the reader after
+pub presents : {A : Type 0} {n k : ℕ} {r : Reader A} → Settles k r → n ≤ k → Settles k (present n >> r)
+unfolding _>>_
+presents {n = n} x g = instead x (λ s h. rw (present-yes n s (omega arith)))
 
 -- where no bytes are missing, a record begins with its mark alone
 begin-marks : (m n : ℕ) (s : List ℕ) → 2 + n ≤ length s → begin m n s ≡ mark m s

@@ -7,17 +7,17 @@ use mathlib.Core.List.{List, [], _++_, append-assoc, append-nil}
 use native.Mathlib.Omega.{arith}
 use borrow.Author.Tests.{eqb-true, eqb-false, ne-eqb}
 use lib.Dec.{eqb, lit<}
-use lib.ListN.{length, length-append}
+use lib.ListN.{length, take, drop, length-append}
 use Rattle.classes.specs.Calendar.{daysInYear}
 use Rattle.figures.specs.Year.{Year}
-use Rattle.wire.specs.Bytes.{Bytes, bytes, joined}
+use Rattle.wire.specs.Bytes.{Bytes, number, bytes, joined}
 use Rattle.dossier.specs.Marks.{YR, CP, CD}
 use Rattle.dossier.specs.Records.{Due, DueInRange, conversionsBytes, YearInRange, yearBytes}
-use Rattle.dossier.specs.Reader.{refused, accepted, _>>=_, _>>_, begin, stands}
-use Rattle.dossier.specs.JudgingRecords.{activityMark}
+use Rattle.dossier.specs.Reader.{refused, accepted, _>>=_, _>>_, give, refuse, begin, field, within, equal, stands}
+use Rattle.dossier.specs.JudgingRecords.{conversions, activityMark}
 use Rattle.dossier.specs.Judging.{activities, noneLeft, yearDue, year}
 use Rattle.wire.proofs.BytesLaws.{length-bytes}
-use Rattle.dossier.proofs.ReaderLaws.{no, step, begin-only, within-yes, equal-yes, stands-bytes}
+use Rattle.dossier.proofs.ReaderLaws.{no, step, was, begin-only, within-yes, equal-yes, equal-only, stands-bytes}
 use Rattle.dossier.proofs.Refusals.{sixty-first, none-left}
 use Rattle.dossier.proofs.YearRefusals.{days-le, yearRecord, year-fields}
 use Rattle.dossier.proofs.Exact.{Exact, begin-first, field-then, within-then, equal-then}
@@ -73,6 +73,24 @@ year-exact due h = go (eqb (due .left) 0) (eqb-true _ _) (eqb-false _ _)
     go : (b : Bool) → (b ≡ true → due .left ≡ 0) → (b ≡ false → due .left ≡ 0 → ⊥) → Exact 0 Any (cond b noneLeft (yearDue due)) yearBytes (YearThen due)
     go true e f = none (e refl)
     go false e f = year-due-exact due h (some (f refl))
+
+-- an accepted year is the one that is due, whatever the bytes are
+pub year-is-due : (due : Due) (s : List ℕ) {y : Year} {t : List ℕ} → year due s ≡ accepted y t → y .year ≡ due .nextYear
+unfolding year noneLeft yearDue refuse give field _>>=_ _>>_
+year-is-due due s {y} {t} q = go (eqb (due .left) 0) q
+  where
+    go : (b : Bool) → cond b noneLeft (yearDue due) s ≡ accepted y t → y .year ≡ due .nextYear
+    go true q = no _ _ _ (step (begin YR 4 s) _ q .3)
+    go false q =
+        let b = step (begin YR 4 s) _ q in
+        let v = number (take 2 (b .1)) in
+        let d = number (take 2 (drop 2 (b .1))) in
+        let e = step (equal 6 v (due .nextYear) _) _ (b .3) in
+        let w = step (within 6 1 d (daysInYear v) _) _ (e .3) in
+        let p = step (conversions CP _ _) _ (w .3) in
+        let c = step (conversions CD _ _) _ (p .3) in
+        let r = step (activities [] _) _ (c .3) in
+        sym (ap (λ (x : Year). x .year) (was (r .3) .0)) ∙ equal-only 6 v (due .nextYear) _ (e .2) .0
 
 -- a year begins with YR
 pub year-begins : (kind : ℕ → Bool) (y : Year) (t : List ℕ) → stands kind (yearBytes y ++ t) ≡ kind YR

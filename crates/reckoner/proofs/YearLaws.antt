@@ -82,7 +82,7 @@ module _ (l : Ledger) (stocks factors counted : List ℕ) (es : stocks ≡ carbo
     (s : List ℕ) (at : ℕ) (r : Stepped) (says : stepSays s r ≡ steppedYear (entry factors) (entry counted) (l .matrix) (dueIn (l .state) (l .start .0) (l .beltstart .0)) (l .state) (drop at s)) where
   in-terms : stepSays s r ≡ after (year (dueOf l) (drop at s)) (λ y. give (yearAdvanced (termsOf l) y (l .state)))
   unfolding dueOf termsOf
-  in-terms = says ∙ step-is (termsOf l) factors counted (ef ∙ ap (λ (x : List ℕ). tableOf (emissionFactor x)) es) ec (dueOf l) (l .state) (drop at s)
+  in-terms = says ∙ step-is (termsOf l) factors counted (ef ∙ ap (λ (x : List ℕ). tableOf (emissionFactor x)) es) ec (dueOf l) (l .state) refl (drop at s)
 
   pub none-given : (n : ℕ) → r .answer ≡ StepAnswer.Refused n → refused n ≡ year (dueOf l) (drop at s)
   none-given n e = no-year (year (dueOf l) (drop at s)) (λ y. yearAdvanced (termsOf l) y (l .state)) n (rw e at in-terms)

@@ -5,19 +5,20 @@ use native.Mathlib.Nat.{mul-le-mul}
 use native.Mathlib.Omega.{arith}
 use lib.IntN.{pos}
 use borrow.Author.Needs.{needs}
-use Rattle.activity.specs.Activity.{VehiclesInRange, activityGrams, numerator, denominator}
+use Rattle.activity.specs.declared.Activity.the-variants.{Vehicles}
+use Rattle.activity.specs.Activity.{ActivityInRange, activityGrams, numerator, denominator}
 use Rattle.activity.proofs.emissions.Statement.{statement}
 use Rattle.activity.proofs.emissions.Tie as tie
 
 -- in the arm of vehicles, their range
-vehicles : (c : tie.After-activity2) → VehiclesInRange (c .activity2 .given .0 .0) (c .activity2 .given .0 .1 .0) (c .activity2 .given .0 .1 .1 .0) (c .activity2 .given .0 .1 .1 .1 .0)
+vehicles : (c : tie.After-activity2) → ActivityInRange (Vehicles (c .activity2 .given .0 .0) (c .activity2 .given .0 .1 .0) (c .activity2 .given .0 .1 .1 .0) (c .activity2 .given .0 .1 .1 .1 .0))
 vehicles c = rw (c .activity2 .given .1) at (c .before .before .pre)
 
 enum-known-activity : tie.Need-enum-known-activity
 enum-known-activity c = search needs
 
 fuel-emissions-requires : tie.Need-fuel-emissions-requires
-fuel-emissions-requires c κs = let h = rw (c .before .activity .given .1) at (c .before .before .before .pre) in (h .kinds, h .amount)
+fuel-emissions-requires c κs = let h = rw (c .before .activity .given .1) at (c .before .before .before .pre) in (h .0, h .1 .0 .most)
 
 of-requires : tie.Need-of-requires
 of-requires c κs = search needs
@@ -26,13 +27,13 @@ enum-known-activity-2 : tie.Need-enum-known-activity-2
 enum-known-activity-2 c = search needs
 
 mul-fuel-emissions : tie.Need-mul-fuel-emissions
-mul-fuel-emissions c = let h = vehicles (c .before) in omega (arith, mul-le-mul (h .counted) (h .used))
+mul-fuel-emissions c = let h = vehicles (c .before) in omega (arith, mul-le-mul (h .1 .0 .most) (h .1 .1 .0 .most))
 
 mul-fuel-emissions-2 : tie.Need-mul-fuel-emissions-2
 mul-fuel-emissions-2 c = omega (arith, vehicles (c .before))
 
 fuel-emissions-requires-2 : tie.Need-fuel-emissions-requires-2
-fuel-emissions-requires-2 c κs = let h = vehicles (c .before) in (h .kinds, h .product)
+fuel-emissions-requires-2 c κs = let h = vehicles (c .before) in (h .0, omega arith)
 
 of-requires-2 : tie.Need-of-requires-2
 of-requires-2 c κs = search needs
@@ -41,7 +42,7 @@ enum-known-activity-3 : tie.Need-enum-known-activity-3
 enum-known-activity-3 c = search needs
 
 nitrogen-emissions-requires : tie.Need-nitrogen-emissions-requires
-nitrogen-emissions-requires c κs = let h = rw (c .before .activity3 .given .1) at (c .before .before .before .pre) in (h .sources, (h .crops, (h .amount, h .share)))
+nitrogen-emissions-requires c κs = let h = rw (c .before .activity3 .given .1) at (c .before .before .before .pre) in (h .0, (h .1 .0, omega arith))
 
 of-requires-3 : tie.Need-of-requires-3
 of-requires-3 c κs = search needs
@@ -50,7 +51,7 @@ enum-known-activity-4 : tie.Need-enum-known-activity-4
 enum-known-activity-4 c = search needs
 
 lime-emissions-requires : tie.Need-lime-emissions-requires
-lime-emissions-requires c κs = let h = rw (c .before .activity4 .given .1) at (c .before .before .before .pre) in (h .materials, h .amount)
+lime-emissions-requires c κs = let h = rw (c .before .activity4 .given .1) at (c .before .before .before .pre) in (h .0, h .1 .0 .most)
 
 of-requires-4 : tie.Need-of-requires-4
 of-requires-4 c κs = search needs

@@ -10,8 +10,8 @@ use Rattle.reckoning.proofs.step.Statement.{statement}
 use Rattle.reckoning.proofs.step.Tie as tie
 
 -- the year that was read
-read : (c : tie.After-known-told2) → WasRead (c .before .before .before .before .before .args .s .now) (c .before .before .before .before .before .args .state .year) (c .before .before .before .before .before .args .state .left) (c .before .days .given .0 .1 .0) (c .before .days .given .0 .1 .1 .0) (c .before .days .given .0 .1 .1 .1 .0) (c .before .days .given .0 .1 .1 .1 .1 .0) (c .before .days .given .0 .1 .1 .1 .1 .1 .0) (summarizedYear (entry (c .before .before .before .before .before .args .counted .now)) (dueIn (c .before .before .before .before .before .args .state) (c .before .before .before .before .before .args .start .0) (c .before .before .before .before .before .args .belt .0)) (drop (c .before .before .before .before .before .args .at) (c .before .before .before .before .before .args .s .now)))
-read c = year-was-read _ _ _ _ _ _ _ _ _ _ _ (c .before .days .given .1) (c .before .before .before .read-year .ensures .0) (c .before .before .before .read-year .ensures .1 .0) (c .before .before .before .read-year .ensures .1 .1)
+read : (c : tie.After-known-told2) → WasRead (c .before .before .before .before .before .args .s .now) (c .before .before .before .before .before .args .state .year) (c .before .before .before .before .before .args .state .left) (c .before .days .given .0 .0) (c .before .days .given .0 .1 .0) (c .before .days .given .0 .1 .1 .0) (c .before .days .given .0 .1 .1 .1 .0) (c .before .days .given .0 .1 .1 .1 .1 .0) (summarizedYear (entry (c .before .before .before .before .before .args .counted .now)) (dueIn (c .before .before .before .before .before .args .state) (c .before .before .before .before .before .args .start .0) (c .before .before .before .before .before .args .belt .0)) (drop (c .before .before .before .before .before .args .at) (c .before .before .before .before .before .args .s .now)))
+read c = year-was-read _ _ _ _ _ _ _ _ _ _ (c .before .days .given .1) (c .before .before .before .read-year .ensures .0) (c .before .before .before .read-year .ensures .1 .0) (c .before .before .before .read-year .ensures .1 .1)
 
 read-year-requires : tie.Need-read-year-requires
 read-year-requires c κs = search needs
