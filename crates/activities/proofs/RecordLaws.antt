@@ -1,7 +1,7 @@
 -- Each step of a record's reader at a place, from what the code read and tested there. `search judging` goes through a reader, one law a step.
 -- Assumes nothing.
 use Prim.Native.Nat.{ℕ, _+_, _-_, _≤_, _<_}
-use mathlib.Core.Path.{_≡_, refl, _∙_, sym}
+use mathlib.Core.Path.{_≡_, _∙_, sym}
 use mathlib.Core.Bool.{Bool, true, false, cond}
 use mathlib.Core.List.{List}
 use native.Mathlib.Nat.{add-zero, add-assoc}

@@ -25,7 +25,8 @@ use Rattle.dossier.specs.Judging.{activities}
 use Rattle.dossier.proofs.RunLaws.{activities-are, activities-step}
 use Rattle.dossier.proofs.Refusals.{sixty-first}
 use Rattle.dossier.proofs.ActivityLaws.{activity-is, under-range}
-use Rattle.cursor.proofs.AtLaws.{bind-no, bind-yes, stands-short, stands-here}
+use Rattle.dossier.proofs.ReaderLaws.{bind-no, bind-yes}
+use Rattle.cursor.proofs.AtLaws.{stands-short, stands-here}
 use Rattle.activities.specs.Answers.{activitySays, activityInside, summedActivities}
 use Rattle.activities.specs.declared.ActivityAnswer.{ActivityAnswer}
 

@@ -1,6 +1,6 @@
 -- The table of activity records: each row is right, the mark tells the row, and what is accepted is exactly the bytes of an activity record in range.
 -- Assumes nothing.
-use Prim.Native.Nat.{ℕ, _<_, _≤_}
+use Prim.Native.Nat.{ℕ, _≤_}
 use mathlib.Core.Path.{_≡_, refl, _∙_, ap, sym}
 use mathlib.Core.Bool.{Bool, true, false, cond}
 use mathlib.Core.List.{List, [], _∷_, _++_, append-assoc}
@@ -13,7 +13,7 @@ use Rattle.activity.specs.declared.Activity.the-variants.{Fuel, Vehicles, Nitro
 use Rattle.activity.specs.Activity.{ActivityInRange}
 use Rattle.wire.specs.Bytes.{Bytes, number, bytes, total}
 use Rattle.dossier.specs.Layouts.{Layout, fuel, vehicles, nitrogen, lime, layouts, activityBytes}
-use Rattle.dossier.specs.Reader.{accepted, _>>=_, _>>_, refuse, stands, is, present, field}
+use Rattle.dossier.specs.Reader.{accepted, _>>=_, _>>_, refuse, stands, present, field}
 use Rattle.dossier.specs.JudgingRecords.{fieldsOf, rowUnder, activityMark, activityUnder, activity}
 use Rattle.wire.proofs.BytesLaws.{length-bytes, bytes-drop, split, take-bytes, drop-bytes}
 use Rattle.dossier.proofs.ReaderLaws.{no, step, present-yes, present-only, stands-bytes}

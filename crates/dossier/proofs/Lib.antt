@@ -14,10 +14,10 @@ pub mod DossierLaws
 pub mod Places
 pub mod WellFormed
 pub mod Longest
+pub mod Walk
 pub mod SettleSteps
 pub mod FirstBytes
 pub mod Pieces
-pub mod CauseSteps
 pub mod Causes
 pub mod Numbers
 pub mod Examples

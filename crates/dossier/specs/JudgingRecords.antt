@@ -1,6 +1,6 @@
 -- Document 01, "Causes and numbers": each record judged by itself: "mark, 9, bytes missing, fields" (9 is no matter of one record).
 -- Assumes nothing.
-use Prim.Native.Nat.{ℕ, zero, suc, _*_}
+use Prim.Native.Nat.{ℕ, zero, suc}
 use mathlib.Core.Bool.{Bool, true, false, cond}
 use mathlib.Core.Option.{Option, none, some}
 use mathlib.Core.List.{List, [], _∷_}

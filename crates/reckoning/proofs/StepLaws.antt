@@ -20,7 +20,7 @@ use Rattle.figures.specs.Reckoning.{regionReference, tableEmissions, yearFigure
 use Rattle.dossier.specs.Records.{Due}
 use Rattle.dossier.specs.Reader.{Judged, refused, accepted, after, _>>=_, give}
 use Rattle.dossier.specs.Judging.{year}
-use Rattle.cursor.proofs.AtLaws.{bind-no, bind-yes}
+use Rattle.dossier.proofs.ReaderLaws.{bind-no, bind-yes}
 use Rattle.dossier.proofs.YearLaws.{year-is-due}
 use Rattle.years.specs.declared.YearAnswer.{YearAnswer}
 use Rattle.years.specs.Answers.{Summary, summary, summarizedYear, yearSays, tablesInside, yearFits}

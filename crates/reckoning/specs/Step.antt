@@ -7,7 +7,6 @@ use lib.IntN.{_+ℤ_}
 use lib.Signed.{mag}
 use lib.ListN.{length, drop}
 use Rattle.classes.specs.Calendar.{daysInYear}
-use Rattle.projection.specs.declared.Region.{Region}
 use Rattle.projection.specs.Projection.{projectedCarbon, projectedRegion, SmallRegion}
 use Rattle.figures.specs.declared.Figures.{Figures}
 use Rattle.figures.specs.Year.{Terms, Year}

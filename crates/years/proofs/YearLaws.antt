@@ -21,8 +21,8 @@ use Rattle.dossier.specs.Reader.{Judged, refused, accepted, Reader, after, _>>=
 use Rattle.dossier.specs.JudgingRecords.{conversions}
 use Rattle.dossier.specs.Judging.{activities, noneLeft, yearDue, year}
 use Rattle.cursor.specs.Answers.{begunSays}
-use Rattle.cursor.proofs.AtLaws.{begun-no, begun-yes, reading, bind-no, bind-yes, bind-bind, after-same}
-use Rattle.dossier.proofs.ReaderLaws.{step, was}
+use Rattle.cursor.proofs.AtLaws.{begun-no, begun-yes, reading}
+use Rattle.dossier.proofs.ReaderLaws.{step, was, bind-no, bind-yes, bind-bind, after-same}
 use Rattle.activities.specs.declared.RunAnswer.{RunAnswer}
 use Rattle.activities.specs.Answers.{summedActivities, runSays, runInside}
 use Rattle.figures.specs.Ranges.{SmallCarbon, SmallGrams}

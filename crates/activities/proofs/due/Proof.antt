@@ -1,6 +1,5 @@
 -- `activities::due` meets its contract: it tests for the four marks of the definition.
 -- Assumes nothing.
-use borrow.Author.Needs.{needs}
 use Rattle.dossier.specs.JudgingRecords.{activityMark}
 use Rattle.activities.proofs.MarkLaws.{marking}
 use Rattle.activities.proofs.due.Statement.{statement}
