@@ -1,24 +1,36 @@
 -- Each step of a record's reader at a place, from what the code read and tested there. `search judging` goes through a reader, one law a step.
 -- Assumes nothing.
-use Prim.Native.Nat.{ℕ, _+_, _≤_}
+use Prim.Native.Nat.{ℕ, _+_, _-_, _≤_, _<_}
 use mathlib.Core.Path.{_≡_, _∙_, sym}
-use mathlib.Core.Bool.{Bool, true, false}
+use mathlib.Core.Bool.{Bool, true, false, cond}
 use mathlib.Core.List.{List}
-use native.Mathlib.Nat.{add-assoc}
-use lib.ListN.{drop}
-use Rattle.activity.specs.Activity.{Within}
-use Rattle.wire.specs.Bytes.{fieldAt}
-use Rattle.dossier.specs.Reader.{Judged, refused, accepted, Reader, _>>=_, _>>_, give, begin, field, outside, within}
+use native.Mathlib.Nat.{add-zero, add-assoc}
+use borrow.Author.Tests.{lt-ltb, le-ltb, eq-eqb, ne-eqb}
+use lib.ListN.{length, drop, length-drop}
+use Rattle.activity.specs.declared.Activity.{Activity}
+use Rattle.activity.specs.declared.Activity.the-variants.{Fuel, Lime}
+use Rattle.wire.specs.Bytes.{fieldAt, total}
+use Rattle.dossier.specs.Layouts.{fuel, lime}
+use Rattle.dossier.specs.Reader.{Judged, refused, accepted, Reader, _>>=_, _>>_, give, present, field, outside, within}
+use Rattle.dossier.specs.JudgingRecords.{inRange, fieldsOf}
 use Rattle.dossier.proofs.ReaderLaws.{not-outside}
-use Rattle.cursor.specs.Answers.{begunSays}
-use Rattle.cursor.proofs.AtLaws.{begun-no, begun-yes, field-is, within-is, give-is}
+use Rattle.cursor.proofs.AtLaws.{field-is, within-is, give-is}
+
+-- bytes are missing
+pub missing : {A : Type 0} (n : ℕ) (q : Reader A) (s : List ℕ) (at : ℕ) → length s - at < n → refused 1 ≡ (present n >> q) (drop at s)
+unfolding present _>>_
+missing n q s at h = let l : length (drop at s) < n = rw length-drop h in simp (lt-ltb _ _ l)
 
 module _ {A : Type 0} {j : Judged A} where
-  -- the mark stands, and no byte is missing
-  pub begun-then : (s : List ℕ) (at m n r : ℕ) (q : Reader A) → begunSays s at r ≡ begin m n (drop at s) → r ≡ 0 → j ≡ q (drop (at + 2) s) → j ≡ (begin m n >> q) (drop at s)
-  begun-then s at m n r q h z e = e ∙ begun-yes s at m n r h q z
+  -- none is missing, and the fields begin here
+  pub present-then : (n : ℕ) (q : Reader A) (s : List ℕ) (at : ℕ) → n ≤ length s - at → j ≡ q (drop (at + 0) s) → j ≡ (present n >> q) (drop at s)
+  unfolding present _>>_
+  present-then n q s at h e = let l : n ≤ length (drop at s) = rw length-drop h in e ∙ simp (add-zero, le-ltb _ _ l)
 
-  -- a field that was read
+  -- a field that was read: the first, or one after others
+  pub field-first : (w : ℕ) (k : ℕ → Reader A) (s : List ℕ) (at x : ℕ) → x ≡ fieldAt w s at → j ≡ k x (drop (at + w) s) → j ≡ (field w >>= k) (drop (at + 0) s)
+  field-first w k s at x h e = e ∙ rw (add-zero, field-is w k s at, h)
+
   pub field-then : (w : ℕ) (k : ℕ → Reader A) (s : List ℕ) (at before x : ℕ) → x ≡ fieldAt w s (at + before) → j ≡ k x (drop (at + (before + w)) s)
       → j ≡ (field w >>= k) (drop (at + before) s)
   field-then w k s at before x h e = e ∙ rw (field-is w k s (at + before), add-assoc, h)
@@ -36,10 +48,24 @@ pub given : {A : Type 0} (a : A) (u : List ℕ) → accepted a u ≡ give a u
 given a u = sym (give-is a u)
 
 -- what a passed test says of its field
-pub in-range : (low x high : ℕ) (b : Bool) → b ≡ outside low x high → b ≡ false → Within low x high
-in-range low x high b h f = not-outside low x high (sym h ∙ f)
-
 pub at-most : (x high : ℕ) (b : Bool) → b ≡ outside 0 x high → b ≡ false → x ≤ high
-at-most x high b h f = in-range 0 x high b h f .most
+at-most x high b h f = not-outside 0 x high (sym h ∙ f) .most
 
-pub ruleset judging = (begun-no, begun-then, field-then, inside-then, outside-then, given, in-range, at-most)
+-- ---- FU and LI: the same fields and ranges, made into one or the other
+abbrev amountOf : Bool → ℕ → ℕ → Activity
+amountOf b kind grams = cond b (Fuel kind grams) (Lime kind grams)
+
+pub amount : {j : Judged Activity} (b : Bool) (u : List ℕ)
+    → j ≡ (present 9 >> (field 1 >>= λ kind. field 8 >>= λ grams. within 8 1 kind 3 >> (within 8 0 grams 1000000000000 >> give (amountOf b kind grams)))) u
+    → j ≡ fieldsOf (cond b fuel lime) u
+unfolding fieldsOf total inRange
+amount true u e = e
+amount false u e = e
+
+pub given-fuel : (b : Bool) (kind grams : ℕ) (u : List ℕ) → b ≡ true → accepted (Fuel kind grams) u ≡ give (amountOf b kind grams) u
+given-fuel b kind grams u h = rw h (given _ u)
+
+pub given-lime : (b : Bool) (kind grams : ℕ) (u : List ℕ) → b ≡ false → accepted (Lime kind grams) u ≡ give (amountOf b kind grams) u
+given-lime b kind grams u h = rw h (given _ u)
+
+pub ruleset judging = (missing, present-then, field-first, field-then, inside-then, outside-then, given, at-most, amount, given-fuel, given-lime, eq-eqb, ne-eqb)

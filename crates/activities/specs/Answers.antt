@@ -7,7 +7,7 @@ use lib.Signed.{mag}
 use lib.ListN.{length, drop}
 use Rattle.classes.specs.declared.Grams.{Grams}
 use Rattle.activity.specs.declared.Activity.{Activity}
-use Rattle.activity.specs.Activity.{ActivityInRange, activityEmissions}
+use Rattle.activity.specs.Activity.{activityEmissions}
 use Rattle.dossier.specs.Reader.{Judged, refused, accepted, Reader, _>>=_, give}
 use Rattle.dossier.specs.Judging.{activities}
 use Rattle.activities.specs.declared.ActivityAnswer.{ActivityAnswer}
@@ -19,27 +19,20 @@ activitySays s (ActivityAnswer.Read activity next) = accepted activity (drop nex
 activitySays s (ActivityAnswer.Refused n) = refused n
 
 abbrev pub activityInside : List ℕ → ActivityAnswer → Type 0
-activityInside s (ActivityAnswer.Read activity next) = (next ≤ length s) × ActivityInRange activity
+activityInside s (ActivityAnswer.Read activity next) = next ≤ length s
 activityInside s (ActivityAnswer.Refused n) = Unit {0}
 
--- ---- a year's records: the sum of their emissions, and their count
-pub record Summed : Type 0 where
-  pub grams : Grams
-  pub count : ℕ
-
-abbrev pub summed : List Activity → Summed
-summed records = record { grams = record { 0 = pos (activityEmissions records) }; count = length records }
-
-unfoldable pub summedActivities : Reader Summed
+-- ---- a year's records: the sum of their emissions
+unfoldable pub summedActivities : Reader Grams
 summedActivities = do
   records ← activities []
-  give (summed records)
+  give (record { 0 = pos (activityEmissions records) })
 
-abbrev pub runSays : List ℕ → RunAnswer → Judged Summed
-runSays s (RunAnswer.Read grams count next) = accepted (record { grams = grams; count = count }) (drop next s)
+abbrev pub runSays : List ℕ → RunAnswer → Judged Grams
+runSays s (RunAnswer.Read grams next) = accepted grams (drop next s)
 runSays s (RunAnswer.Refused n) = refused n
 
 -- what follows begins inside, and the sum is small: at most 4 × 10^12 for each of 60 records
 abbrev pub runInside : List ℕ → RunAnswer → Type 0
-runInside s (RunAnswer.Read grams count next) = (next ≤ length s) × (mag (grams .0) ≤ 240000000000000)
+runInside s (RunAnswer.Read grams next) = (next ≤ length s) × (mag (grams .0) ≤ 240_000_000_000_000)
 runInside s (RunAnswer.Refused n) = Unit {0}

@@ -2,10 +2,13 @@
 use activity::Activity;
 use classes::Grams;
 ghost use mathlib.Core.Path.{_≡_};
-ghost use Prim.Native.Nat.{_+_, _≤_};
+ghost use mathlib.Core.Bool.{cond};
+ghost use Prim.Native.Nat.{_≤_};
+ghost use lib.Dec.{eqb};
 ghost use lib.ListN.{length, drop};
-ghost use Rattle.dossier.specs.Reader.{stands};
-ghost use Rattle.dossier.specs.JudgingRecords.{fuel, vehicles, nitrogen, lime, activityMark, activity as judgedActivity};
+ghost use Rattle.dossier.specs.Marks.{FU as markFU};
+ghost use Rattle.dossier.specs.Layouts.{fuel, vehicles, nitrogen, lime};
+ghost use Rattle.dossier.specs.JudgingRecords.{fieldsOf, activityMark, activityUnder};
 ghost use Rattle.activities.specs.Answers.{activitySays, activityInside, summedActivities, runSays, runInside};
 
 const FU: u64 = 0x4655;
@@ -22,52 +25,56 @@ enum ActivityAnswer {
 }
 
 pub enum RunAnswer {
-    Read {
-        grams: Grams,
-        count: u64,
-        next: usize,
-    },
+    Read { grams: Grams, next: usize },
     Refused(u8),
 }
 
-// FU from at.
-fn read_fuel(s: &[u8], at: usize) -> ActivityAnswer
+// FU or LI, by its mark m, from its fields on: both have a material from 1 to 3 and grams up to 10^12.
+fn read_amount(s: &[u8], at: usize, m: u64) -> ActivityAnswer
     requires { ⌜ at ≤ length (now s) ⌝ }
-    ensures { λ r. ⌜ activitySays (now (s .entry)) r ≡ fuel (drop at (now (s .entry))) ⌝ }
+    ensures { λ r. ⌜ activitySays (now (s .entry)) r ≡ fieldsOf (cond (eqb m markFU) fuel lime) (drop at (now (s .entry))) ⌝ }
     ensures { λ r. ⌜ activityInside (now (s .entry)) r ⌝ }
 {
-    let fault = cursor::begun(s, at, FU, 9);
-    if fault != 0 {
-        return ActivityAnswer::Refused(fault);
+    if s.len() - at < 9 {
+        return ActivityAnswer::Refused(1);
     }
-    let kind = wire::field8(s, at + 2);
-    let grams = wire::field64(s, at + 3);
-    if cursor::outside(kind, 1, 3) {
+    let material = wire::field8(s, at);
+    let grams = wire::field64(s, at + 1);
+    if cursor::outside(material, 1, 3) {
         return ActivityAnswer::Refused(8);
     }
     if cursor::outside(grams, 0, 1000000000000) {
         return ActivityAnswer::Refused(8);
     }
+    let next = at + 9;
+    if m == FU {
+        return ActivityAnswer::Read {
+            activity: Activity::Fuel {
+                kind: material,
+                grams,
+            },
+            next,
+        };
+    }
     ActivityAnswer::Read {
-        activity: Activity::Fuel { kind, grams },
-        next: at + 11,
+        activity: Activity::Lime { material, grams },
+        next,
     }
 }
 
-// VE from at.
+// VE from its fields on.
 fn read_vehicles(s: &[u8], at: usize) -> ActivityAnswer
     requires { ⌜ at ≤ length (now s) ⌝ }
-    ensures { λ r. ⌜ activitySays (now (s .entry)) r ≡ vehicles (drop at (now (s .entry))) ⌝ }
+    ensures { λ r. ⌜ activitySays (now (s .entry)) r ≡ fieldsOf vehicles (drop at (now (s .entry))) ⌝ }
     ensures { λ r. ⌜ activityInside (now (s .entry)) r ⌝ }
 {
-    let fault = cursor::begun(s, at, VE, 13);
-    if fault != 0 {
-        return ActivityAnswer::Refused(fault);
+    if s.len() - at < 13 {
+        return ActivityAnswer::Refused(1);
     }
-    let kind = wire::field8(s, at + 2);
-    let count = wire::field32(s, at + 3);
-    let average = wire::field32(s, at + 7);
-    let rate = wire::field32(s, at + 11);
+    let kind = wire::field8(s, at);
+    let count = wire::field32(s, at + 1);
+    let average = wire::field32(s, at + 5);
+    let rate = wire::field32(s, at + 9);
     if cursor::outside(kind, 1, 3) {
         return ActivityAnswer::Refused(8);
     }
@@ -90,24 +97,23 @@ fn read_vehicles(s: &[u8], at: usize) -> ActivityAnswer
             average,
             rate,
         },
-        next: at + 15,
+        next: at + 13,
     }
 }
 
-// NI from at.
+// NI from its fields on.
 fn read_nitrogen(s: &[u8], at: usize) -> ActivityAnswer
     requires { ⌜ at ≤ length (now s) ⌝ }
-    ensures { λ r. ⌜ activitySays (now (s .entry)) r ≡ nitrogen (drop at (now (s .entry))) ⌝ }
+    ensures { λ r. ⌜ activitySays (now (s .entry)) r ≡ fieldsOf nitrogen (drop at (now (s .entry))) ⌝ }
     ensures { λ r. ⌜ activityInside (now (s .entry)) r ⌝ }
 {
-    let fault = cursor::begun(s, at, NI, 12);
-    if fault != 0 {
-        return ActivityAnswer::Refused(fault);
+    if s.len() - at < 12 {
+        return ActivityAnswer::Refused(1);
     }
-    let source = wire::field8(s, at + 2);
-    let crop = wire::field8(s, at + 3);
-    let grams = wire::field64(s, at + 4);
-    let content = wire::field16(s, at + 12);
+    let source = wire::field8(s, at);
+    let crop = wire::field8(s, at + 1);
+    let grams = wire::field64(s, at + 2);
+    let content = wire::field16(s, at + 10);
     if cursor::outside(source, 1, 3) {
         return ActivityAnswer::Refused(8);
     }
@@ -127,43 +133,14 @@ fn read_nitrogen(s: &[u8], at: usize) -> ActivityAnswer
             grams,
             content,
         },
-        next: at + 14,
+        next: at + 12,
     }
 }
 
-// LI from at.
-fn read_lime(s: &[u8], at: usize) -> ActivityAnswer
-    requires { ⌜ at ≤ length (now s) ⌝ }
-    ensures { λ r. ⌜ activitySays (now (s .entry)) r ≡ lime (drop at (now (s .entry))) ⌝ }
-    ensures { λ r. ⌜ activityInside (now (s .entry)) r ⌝ }
+// Whether m is the mark of an activity record.
+fn due(m: u64) -> bool
+    ensures { λ r. ⌜ r ≡ activityMark m ⌝ }
 {
-    let fault = cursor::begun(s, at, LI, 9);
-    if fault != 0 {
-        return ActivityAnswer::Refused(fault);
-    }
-    let material = wire::field8(s, at + 2);
-    let grams = wire::field64(s, at + 3);
-    if cursor::outside(material, 1, 3) {
-        return ActivityAnswer::Refused(8);
-    }
-    if cursor::outside(grams, 0, 1000000000000) {
-        return ActivityAnswer::Refused(8);
-    }
-    ActivityAnswer::Read {
-        activity: Activity::Lime { material, grams },
-        next: at + 11,
-    }
-}
-
-// Whether an activity mark stands at a place.
-fn due(s: &[u8], at: usize) -> bool
-    requires { ⌜ at ≤ length (now s) ⌝ }
-    ensures { λ r. ⌜ r ≡ stands activityMark (drop at (now (s .entry))) ⌝ }
-{
-    if s.len() - at < 2 {
-        return false;
-    }
-    let m = wire::field16(s, at);
     if m == FU {
         return true;
     }
@@ -176,15 +153,14 @@ fn due(s: &[u8], at: usize) -> bool
     m == LI
 }
 
-// The activity record whose mark stands at a place.
-fn read_activity(s: &[u8], at: usize) -> ActivityAnswer
-    requires { ⌜ at + 2 ≤ length (now s) ⌝ }
-    ensures { λ r. ⌜ activitySays (now (s .entry)) r ≡ judgedActivity (drop at (now (s .entry))) ⌝ }
+// The activity record whose mark is m, from its fields on.
+fn read_activity(s: &[u8], at: usize, m: u64) -> ActivityAnswer
+    requires { ⌜ at ≤ length (now s) ⌝ }
+    ensures { λ r. ⌜ activitySays (now (s .entry)) r ≡ activityUnder m (drop at (now (s .entry))) ⌝ }
     ensures { λ r. ⌜ activityInside (now (s .entry)) r ⌝ }
 {
-    let m = wire::field16(s, at);
     if m == FU {
-        return read_fuel(s, at);
+        return read_amount(s, at, m);
     }
     if m == VE {
         return read_vehicles(s, at);
@@ -192,23 +168,29 @@ fn read_activity(s: &[u8], at: usize) -> ActivityAnswer
     if m == NI {
         return read_nitrogen(s, at);
     }
-    read_lime(s, at)
+    if m == LI {
+        return read_amount(s, at, m);
+    }
+    ActivityAnswer::Refused(2)
 }
 
-// The run of activity records from start: the sum of their emissions and their count.
-pub fn read_run(s: &[u8], start: usize) -> RunAnswer
-    requires { ⌜ start ≤ length (now s) ⌝ }
-    ensures { λ r. ⌜ runSays (now (s .entry)) r ≡ summedActivities (drop start (now (s .entry))) ⌝ }
-    ensures { λ r. ⌜ runInside (now (s .entry)) r ⌝ }
+// The run of activity records at the start of a part: the sum of their emissions.
+pub fn read_run(part: &[u8]) -> RunAnswer
+    ensures { λ r. ⌜ runSays (now (part .entry)) r ≡ summedActivities (now (part .entry)) ⌝ }
+    ensures { λ r. ⌜ runInside (now (part .entry)) r ⌝ }
 {
-    let mut at = start;
+    let mut at: usize = 0;
     let mut grams = Grams(0);
     let mut count: u64 = 0;
-    while due(s, at) {
+    while part.len() - at >= 2 {
+        let m = wire::field16(part, at);
+        if !due(m) {
+            return RunAnswer::Read { grams, next: at };
+        }
         if count == 60 {
             return RunAnswer::Refused(9);
         }
-        match read_activity(s, at) {
+        match read_activity(part, at + 2, m) {
             ActivityAnswer::Read { activity, next } => {
                 grams = grams.plus(activity::emissions(activity));
                 at = next;
@@ -219,9 +201,5 @@ pub fn read_run(s: &[u8], start: usize) -> RunAnswer
         }
         count = count + 1;
     }
-    RunAnswer::Read {
-        grams,
-        count,
-        next: at,
-    }
+    RunAnswer::Read { grams, next: at }
 }

@@ -33,11 +33,9 @@ unfolding all
 n2oShare-le source crop h k = factor-le (λ s. n2oShare s crop) 1425 (all-at 3 (λ c. all 4 (λ s. leb (n2oShare s c) 1425)) tt crop (omega arith)) source h
 
 -- ---- a factor within its bound keeps the grams within theirs
-pub fuel-le : {grams factor : ℕ} → grams ≤ 1000000000000 → factor ≤ 318630 → ceilDiv (grams * factor) 100000 ≤ 4000000000000
-fuel-le g f = ceilDiv-le _ 100000 _ (lit≤ tt) (omega (arith, mul-le-mul g f))
-
-pub lime-le : {grams factor : ℕ} → grams ≤ 1000000000000 → factor ≤ 220 → ceilDiv (grams * factor) 300 ≤ 4000000000000
-lime-le g f = ceilDiv-le _ 300 _ (lit≤ tt) (omega (arith, mul-le-mul g f))
+factor-grams-le : {grams factor greatest divisor : ℕ} → grams ≤ 1000000000000 → factor ≤ greatest → greatest ≤ 4 * divisor → 0 < divisor
+    → ceilDiv (grams * factor) divisor ≤ 4000000000000
+factor-grams-le g f b d = ceilDiv-le _ _ _ d (omega (arith, mul-le-mul g f))
 
 pub nitrogen-le : {nitrogen weight : ℕ} → nitrogen ≤ 100000000000000 → weight ≤ 4671150 → ceilDiv (nitrogen * weight) 7000000000 ≤ 4000000000000
 nitrogen-le n w = ceilDiv-le _ 7000000000 _ (lit≤ tt) (omega (arith, mul-le-mul n w))
@@ -52,11 +50,14 @@ denominator-pos (Lime material grams) = lit≤ tt
 
 pub grams-le : (a : Activity) → ActivityInRange a → activityGrams a ≤ 4000000000000
 unfolding activityGrams numerator denominator all
-grams-le (Fuel kind grams) h = fuel-le (h .amount) (factor-le fuelFactor 318630 tt kind (h .kinds))
-grams-le (Vehicles kind count average rate) h = fuel-le (h .product) (factor-le fuelFactor 318630 tt kind (h .kinds))
+grams-le (Fuel kind grams) h = factor-grams-le (omega arith) (factor-le fuelFactor 318630 tt kind (h .0)) (lit≤ tt) (lit≤ tt)
+grams-le (Vehicles kind count average rate) h = factor-grams-le (omega arith) (factor-le fuelFactor 318630 tt kind (h .0)) (lit≤ tt) (lit≤ tt)
 grams-le (Nitrogen source crop grams content) h =
-    rw (mul-assoc (grams * content) (n2oShare source crop) 3278) (nitrogen-le (omega (arith, mul-le-mul (h .amount) (h .share))) (omega (arith, n2oShare-le source crop (h .sources) (h .crops))))
-grams-le (Lime material grams) h = lime-le (h .amount) (factor-le limeFactor 220 tt material (h .materials))
+    let g : grams ≤ 10000000000 = omega arith in
+    let c : content ≤ 10000 = omega arith in
+    rw (mul-assoc (grams * content) (n2oShare source crop) 3278)
+    (nitrogen-le (omega (arith, mul-le-mul g c)) (omega (arith, n2oShare-le source crop (h .0) (h .1 .0))))
+grams-le (Lime material grams) h = factor-grams-le (omega arith) (factor-le limeFactor 220 tt material (h .0)) (lit≤ tt) (lit≤ tt)
 
 pub emissions-le : (records : List Activity) → ActivitiesInRange records → activityEmissions records ≤ 4000000000000 * length records
 unfolding activityEmissions

@@ -72,35 +72,43 @@ fn n2o_share(source: u64, crop: u64) -> u64
     direct + indirect
 }
 
+// Grams of CO2 from grams of a material, factor from each divisor of them.
+fn by_factor(grams: u64, factor: u64, divisor: u64) -> Grams
+    requires { ⌜ (grams ≤ 1000000000000) × (factor ≤ 318630) × (1 ≤ divisor) ⌝ }
+    ensures { λ r. ⌜ r .0 ≡ pos (ceilDiv (grams * factor) divisor) ⌝ }
+{
+    Grams::of(arithmetic::divided_up(grams * factor, divisor))
+}
+
 // FU, and VE by the fuel it comes to.
-fn fuel_emissions(kind: u64, grams: u64) -> u64
+fn fuel_emissions(kind: u64, grams: u64) -> Grams
     requires { ⌜ Within 1 kind 3 ⌝ }
     requires { ⌜ grams ≤ 1000000000000 ⌝ }
-    ensures { λ r. ⌜ (r ≡ ceilDiv (grams * fuelFactor kind) 100000) × (r ≤ 4000000000000) ⌝ }
+    ensures { λ r. ⌜ r .0 ≡ pos (ceilDiv (grams * fuelFactor kind) 100000) ⌝ }
 {
-    arithmetic::divided_up(grams * fuel_factor(kind), 100000)
+    by_factor(grams, fuel_factor(kind), 100000)
 }
 
 // NI. The product of all passes 64 bits, so the quotient of grams × content and its remainder are weighed apart.
-fn nitrogen_emissions(source: u64, crop: u64, grams: u64, content: u64) -> u64
+fn nitrogen_emissions(source: u64, crop: u64, grams: u64, content: u64) -> Grams
     requires { ⌜ Within 1 source 3 ⌝ }
     requires { ⌜ Within 1 crop 2 ⌝ }
     requires { ⌜ (grams ≤ 10000000000) × (content ≤ 10000) ⌝ }
-    ensures { λ r. ⌜ (r ≡ ceilDiv (grams * content * n2oShare source crop * 3278) 7000000000) × (r ≤ 4000000000000) ⌝ }
+    ensures { λ r. ⌜ r .0 ≡ pos (ceilDiv (grams * content * n2oShare source crop * 3278) 7000000000) ⌝ }
 {
     let weight = n2o_share(source, crop) * 3278;
     let nitrogen = grams * content;
-    nitrogen / 7000000000 * weight
-        + arithmetic::divided_up(nitrogen % 7000000000 * weight, 7000000000)
+    let rest = arithmetic::divided_up(nitrogen % 7000000000 * weight, 7000000000);
+    Grams::of(nitrogen / 7000000000 * weight + rest)
 }
 
 // LI.
-fn lime_emissions(material: u64, grams: u64) -> u64
+fn lime_emissions(material: u64, grams: u64) -> Grams
     requires { ⌜ Within 1 material 3 ⌝ }
     requires { ⌜ grams ≤ 1000000000000 ⌝ }
-    ensures { λ r. ⌜ (r ≡ ceilDiv (grams * limeFactor material) 300) × (r ≤ 4000000000000) ⌝ }
+    ensures { λ r. ⌜ r .0 ≡ pos (ceilDiv (grams * limeFactor material) 300) ⌝ }
 {
-    arithmetic::divided_up(grams * lime_factor(material), 300)
+    by_factor(grams, lime_factor(material), 300)
 }
 
 // A record's grams of CO2, rounded up by itself.
@@ -109,19 +117,19 @@ pub fn emissions(activity: Activity) -> Grams
     ensures { λ r. ⌜ r .0 ≡ pos (activityGrams activity) ⌝ }
 {
     match activity {
-        Activity::Fuel { kind, grams } => Grams::of(fuel_emissions(kind, grams)),
+        Activity::Fuel { kind, grams } => fuel_emissions(kind, grams),
         Activity::Vehicles {
             kind,
             count,
             average,
             rate,
-        } => Grams::of(fuel_emissions(kind, count * average * rate)),
+        } => fuel_emissions(kind, count * average * rate),
         Activity::Nitrogen {
             source,
             crop,
             grams,
             content,
-        } => Grams::of(nitrogen_emissions(source, crop, grams, content)),
-        Activity::Lime { material, grams } => Grams::of(lime_emissions(material, grams)),
+        } => nitrogen_emissions(source, crop, grams, content),
+        Activity::Lime { material, grams } => lime_emissions(material, grams),
     }
 }

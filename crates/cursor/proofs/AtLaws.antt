@@ -7,34 +7,35 @@ use mathlib.Core.List.{List}
 use native.Mathlib.Nat.{add-assoc}
 use native.Mathlib.Omega.{arith}
 use lib.Dec.{eqb}
-use lib.ListN.{length, take, drop, length-drop}
+use lib.ListN.{length, drop, length-drop}
 use lib.Seq.{drop-drop}
 use borrow.Author.Tests.{lt-ltb, le-ltb, eq-eqb, ne-eqb}
-use Rattle.wire.specs.Bytes.{number, numbers, fieldAt}
-use Rattle.dossier.specs.Reader.{Judged, refused, accepted, Reader, after, _>>=_, _>>_, give, mark, stands, present, begin, field, fields, outside, within, equal, nothing, endOfPiece}
+use Rattle.wire.specs.Bytes.{numbers, fieldAt}
+use Rattle.dossier.specs.Reader.{Judged, refused, accepted, Reader, after, _>>=_, _>>_, give, stands, begin, field, fields, outside, within, equal, nothing, endOfPiece}
+pub use Rattle.dossier.proofs.ReaderLaws.{bind-no, bind-yes, bind-bind, after-same}
+use Rattle.dossier.proofs.Refusals.{begin-short as short, begin-other as other, begin-cut as cut, begin-whole as whole}
 use Rattle.cursor.specs.Answers.{numberSays, begunSays}
 
 -- ---- the four ways in which a record begins
 module _ (m n : ℕ) (s : List ℕ) (at : ℕ) where
   pub begin-short : length s - at < 2 → refused 1 ≡ begin m n (drop at s)
-  unfolding begin mark _>>_
-  begin-short h = let k : length (drop at s) < 2 = rw length-drop h in simp (lt-ltb _ _ k)
+  begin-short h = sym (short m n (drop at s) (rw length-drop h))
 
   module _ (long : 2 ≤ length s - at) (x : ℕ) (e : x ≡ fieldAt 2 s at) where
     two : 2 ≤ length (drop at s)
     two = rw length-drop long
 
     pub begin-other : (x ≡ m → ⊥) → refused 2 ≡ begin m n (drop at s)
-    unfolding begin mark fieldAt _>>_
-    begin-other f = let g : number (take 2 (drop at s)) ≡ m → ⊥ = λ d. f (e ∙ d) in simp (le-ltb _ _ two, ne-eqb _ _ g)
+    unfolding fieldAt
+    begin-other f = sym (other m n (drop at s) two (λ d. f (e ∙ d)))
 
     pub begin-cut : x ≡ m → length s - at - 2 < n → refused 1 ≡ begin m n (drop at s)
-    unfolding begin mark present fieldAt _>>_
-    begin-cut f l = let j : length (drop 2 (drop at s)) < n = simp length-drop l in simp (le-ltb _ _ two, eq-eqb _ _ (sym e ∙ f), lt-ltb _ _ j)
+    unfolding fieldAt
+    begin-cut f l = sym (cut m n (drop at s) two (sym e ∙ f) (simp length-drop l))
 
     pub begin-whole : x ≡ m → n ≤ length s - at - 2 → accepted tt (drop (at + 2) s) ≡ begin m n (drop at s)
-    unfolding begin mark present fieldAt _>>_
-    begin-whole f l = let j : n ≤ length (drop (at + 2) s) = simp length-drop (omega arith) in simp (le-ltb _ _ two, eq-eqb _ _ (sym e ∙ f), le-ltb _ _ j, drop-drop)
+    unfolding fieldAt
+    begin-whole f l = rw drop-drop at (sym (whole m n (drop at s) two (sym e ∙ f) (simp length-drop l)))
 
 -- ---- what a number says of a reader r, and of what follows it
 module _ (r : Reader (Unit {0})) (u v : List ℕ) (n : ℕ) (h : numberSays v n ≡ r u) where
@@ -84,23 +85,6 @@ unfolding give
 give-is a s = refl
 
 pub ruleset reading = (field-is, fields-is, within-is, equal-is, give-is, add-assoc)
-
--- ---- one reader after another, from what the first one gives
-pub bind-no : {A B : Type 0} (r : Reader A) (k : A → Reader B) (u : List ℕ) (n : ℕ) → refused n ≡ r u → refused n ≡ (r >>= k) u
-unfolding _>>=_
-bind-no r k u n e = rw (← e)
-
-pub bind-yes : {A B : Type 0} (r : Reader A) (k : A → Reader B) (u : List ℕ) (a : A) (v : List ℕ) → accepted a v ≡ r u → k a v ≡ (r >>= k) u
-unfolding _>>=_
-bind-yes r k u a v e = rw (← e)
-
-pub bind-bind : {A B C : Type 0} (j : Judged A) (k : A → Reader B) (g : B → Reader C) → after (after j k) g ≡ after j (λ a u. after (k a u) g)
-bind-bind (refused n) k g = refl
-bind-bind (accepted a u) k g = refl
-
-pub after-same : {A B : Type 0} (j : Judged A) (k l : A → Reader B) → ((a : A) (u : List ℕ) → k a u ≡ l a u) → after j k ≡ after j l
-after-same (refused n) k l h = refl
-after-same (accepted a u) k l h = h a u
 
 -- ---- whether a mark of some kind stands at a place
 pub stands-short : (kind : ℕ → Bool) (s : List ℕ) (at : ℕ) → length s - at < 2 → stands kind (drop at s) ≡ false

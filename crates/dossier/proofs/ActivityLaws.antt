@@ -1,118 +1,130 @@
--- FU, VE, NI, LI: what is accepted is exactly the encoding of an activity record in range.
+-- The table of activity records: each row is right, the mark tells the row, and what is accepted is exactly the bytes of an activity record in range.
 -- Assumes nothing.
-use Prim.Native.Nat.{ℕ}
+use Prim.Native.Nat.{ℕ, _≤_}
 use mathlib.Core.Path.{_≡_, refl, _∙_, ap, sym}
-use mathlib.Core.List.{List}
+use mathlib.Core.Bool.{Bool, true, false, cond}
+use mathlib.Core.List.{List, [], _∷_, _++_, append-assoc}
 use native.Mathlib.Omega.{arith}
-use lib.Dec.{lit<}
-use lib.ListN.{length-append}
+use borrow.Author.Tests.{eqb-true}
+use lib.Dec.{eqb, lit<, lit≤}
+use lib.ListN.{length, take, drop, length-append}
 use Rattle.activity.specs.declared.Activity.{Activity}
 use Rattle.activity.specs.declared.Activity.the-variants.{Fuel, Vehicles, Nitrogen, Lime}
 use Rattle.activity.specs.Activity.{ActivityInRange}
-use Rattle.wire.specs.Bytes.{joined}
-use Rattle.dossier.specs.Records.{activityBytes}
-use Rattle.dossier.specs.Reader.{Reader}
-use Rattle.dossier.specs.JudgingRecords.{fuel, vehicles, nitrogen, lime}
-use Rattle.wire.proofs.BytesLaws.{length-bytes}
-use Rattle.dossier.proofs.Exact.{Exact, done, begin-then, field-then, within-then}
-use Rattle.dossier.proofs.ExactParts.{recoded}
+use Rattle.wire.specs.Bytes.{Bytes, number, bytes, total}
+use Rattle.dossier.specs.Layouts.{Layout, fuel, vehicles, nitrogen, lime, layouts, activityBytes}
+use Rattle.dossier.specs.Reader.{accepted, _>>=_, _>>_, refuse, stands, present, field}
+use Rattle.dossier.specs.JudgingRecords.{fieldsOf, rowUnder, activityMark, activityUnder, activity}
+use Rattle.wire.proofs.BytesLaws.{length-bytes, bytes-drop, split, take-bytes, drop-bytes}
+use Rattle.dossier.proofs.ReaderLaws.{no, step, present-yes, present-only, stands-bytes}
+use Rattle.dossier.proofs.Exact.{Exact}
+use Rattle.dossier.proofs.ExactParts.{Any}
+use Rattle.dossier.proofs.LayoutLaws.{Numbers, fieldBytes, recordOf, longestRecord, Right, row-reads, row-range, row-only, row-length}
 
--- the fields of a record by place
-unfoldable pub first : Activity → ℕ
-first (Fuel kind grams) = kind
-first (Vehicles kind count average rate) = kind
-first (Nitrogen source crop grams content) = source
-first (Lime material grams) = material
+-- ---- any table
+abbrev pub AllRight : List Layout → Type 0
+AllRight [] = Unit {0}
+AllRight (l ∷ rest) = Right l × AllRight rest
 
-unfoldable pub second : Activity → ℕ
-second (Fuel kind grams) = grams
-second (Vehicles kind count average rate) = count
-second (Nitrogen source crop grams content) = crop
-second (Lime material grams) = grams
+-- what is accepted after a mark is accepted by the row that has it
+rowUnder-only : (table : List Layout) → AllRight table → (m : ℕ) (s : List ℕ) {a : Activity} {t : List ℕ} → rowUnder table m s ≡ accepted a t
+    → (l : Layout) × Right l × (m ≡ l .mark) × (fieldsOf l s ≡ accepted a t)
+unfolding refuse
+rowUnder-only [] r m s q = no _ _ _ q
+rowUnder-only (l ∷ rest) r m s {a} {t} q = go (eqb m (l .mark)) (eqb-true _ _) q (rowUnder-only rest (r .1) m s)
+  where
+    go : (b : Bool) → (b ≡ true → m ≡ l .mark) → cond b (fieldsOf l) (rowUnder rest m) s ≡ accepted a t
+        → (rowUnder rest m s ≡ accepted a t → (k : Layout) × Right k × (m ≡ k .mark) × (fieldsOf k s ≡ accepted a t))
+        → (k : Layout) × Right k × (m ≡ k .mark) × (fieldsOf k s ≡ accepted a t)
+    go true e q ih = (l, r .0, e refl, q)
+    go false e q ih = ih q
 
-unfoldable pub third : Activity → ℕ
-third (Fuel kind grams) = 0
-third (Vehicles kind count average rate) = average
-third (Nitrogen source crop grams content) = grams
-third (Lime material grams) = 0
+-- ---- this table
+fuel-right : Right fuel
+unfolding activityBytes total
+fuel-right = record { small = lit< tt; fit = λ xs p. omega arith; bytes = λ xs. refl; short = lit≤ tt }
 
-unfoldable pub fourth : Activity → ℕ
-fourth (Fuel kind grams) = 0
-fourth (Vehicles kind count average rate) = rate
-fourth (Nitrogen source crop grams content) = content
-fourth (Lime material grams) = 0
+vehicles-right : Right vehicles
+unfolding activityBytes total
+vehicles-right = record { small = lit< tt; fit = λ xs p. omega arith; bytes = λ xs. refl; short = lit≤ tt }
 
--- a is make of its fields
-abbrev pub Is : (Activity → Activity) → Activity → Type 0
-Is make a = make a ≡ a
+nitrogen-right : Right nitrogen
+unfolding activityBytes total
+nitrogen-right = record { small = lit< tt; fit = λ xs p. omega arith; bytes = λ xs. refl; short = lit≤ tt }
 
-abbrev pub asFuel : Activity → Activity
-asFuel a = Fuel (first a) (second a)
+lime-right : Right lime
+unfolding activityBytes total
+lime-right = record { small = lit< tt; fit = λ xs p. omega arith; bytes = λ xs. refl; short = lit≤ tt }
 
-abbrev pub asVehicles : Activity → Activity
-asVehicles a = Vehicles (first a) (second a) (third a) (fourth a)
+pub all-right : AllRight layouts
+all-right = (fuel-right, (vehicles-right, (nitrogen-right, (lime-right, tt))))
 
-abbrev pub asNitrogen : Activity → Activity
-asNitrogen a = Nitrogen (first a) (second a) (third a) (fourth a)
+-- the row of a record, which its mark tells, and its numbers
+record Placed (a : Activity) : Type 0 where
+  row : Layout
+  right : Right row
+  numbers : Numbers (row .widths)
+  made : recordOf (row .widths) (row .made) numbers ≡ a
+  told : activityUnder (row .mark) ≡ fieldsOf row
+  due : activityMark (row .mark) ≡ true
 
-abbrev pub asLime : Activity → Activity
-asLime a = Lime (first a) (second a)
+placed : (l : Layout) → Right l → activityUnder (l .mark) ≡ fieldsOf l → activityMark (l .mark) ≡ true → (xs : Numbers (l .widths)) → Placed (recordOf (l .widths) (l .made) xs)
+placed l r u d xs = record { row = l; right = r; numbers = xs; made = refl; told = u; due = d }
 
-abbrev pub Read : (Activity → Activity) → Reader Activity → Type 0
-Read make r = Exact 0 (Is make) r activityBytes (λ (a : Activity) (t : List ℕ). ActivityInRange a)
+place : (a : Activity) → Placed a
+unfolding activityMark activityUnder
+place (Fuel kind grams) = placed fuel fuel-right refl refl (kind, (grams, tt))
+place (Vehicles kind count average rate) = placed vehicles vehicles-right refl refl (kind, (count, (average, (rate, tt))))
+place (Nitrogen source crop grams content) = placed nitrogen nitrogen-right refl refl (source, (crop, (grams, (content, tt))))
+place (Lime material grams) = placed lime lime-right refl refl (material, (grams, tt))
 
-in-range : {b a : Activity} → b ≡ a → ActivityInRange a → ActivityInRange b
-in-range c p = rw c p
+-- its bytes: its row's mark, and its fields
+module _ (a : Activity) (t : List ℕ) where
+  after-mark : List ℕ
+  after-mark = let k = place a in fieldBytes (k .row .widths) (k .numbers) ++ t
 
-pub fuel-exact : Read asFuel fuel
-unfolding fuel activityBytes joined first second
-fuel-exact =
-    recoded (λ a c. ap activityBytes c)
-    (begin-then _ _ (lit< tt) (λ a t c p. simp (length-append, length-bytes))
-    (field-then _ first (λ a t c p. let q = in-range c p in omega arith) (λ k lk.
-    field-then _ second (λ a t c p. let q = in-range (c .0) p in omega arith) (λ g lg.
-    within-then _ _ _ _ (λ a t c p. let q = in-range (c .0 .0) p in omega arith) (λ rk.
-    within-then _ _ _ _ (λ a t c p. let q = in-range (c .0 .0) p in omega arith) (λ rg.
-    done (Fuel k g) ((refl, refl), refl) (λ t. omega arith) (λ a t c p. sym (c .0 .0) ∙ cc)))))))
+  marked : activityBytes a ++ t ≡ bytes 2 (place a .row .mark) ++ after-mark
+  unfolding after-mark
+  marked = let k = place a in ap (λ (x : Activity). activityBytes x ++ t) (sym (k .made)) ∙ rw (k .right .bytes (k .numbers), append-assoc)
 
-pub vehicles-exact : Read asVehicles vehicles
-unfolding vehicles activityBytes joined first second third fourth
-vehicles-exact =
-    recoded (λ a c. ap activityBytes c)
-    (begin-then _ _ (lit< tt) (λ a t c p. simp (length-append, length-bytes))
-    (field-then _ first (λ a t c p. let q = in-range c p in omega arith) (λ k lk.
-    field-then _ second (λ a t c p. let q = in-range (c .0) p in omega arith) (λ n ln.
-    field-then _ third (λ a t c p. let q = in-range (c .0 .0) p in omega arith) (λ d ld.
-    field-then _ fourth (λ a t c p. let q = in-range (c .0 .0 .0) p in omega arith) (λ r lr.
-    within-then _ _ _ _ (λ a t c p. let q = in-range (c .0 .0 .0 .0) p in omega arith) (λ rk.
-    within-then _ _ _ _ (λ a t c p. let q = in-range (c .0 .0 .0 .0) p in omega arith) (λ rn.
-    within-then _ _ _ _ (λ a t c p. let q = in-range (c .0 .0 .0 .0) p in omega arith) (λ rd.
-    within-then _ _ _ _ (λ a t c p. let q = in-range (c .0 .0 .0 .0) p in omega arith) (λ rr.
-    within-then _ _ _ _ (λ a t c p. let q = in-range (c .0 .0 .0 .0) p in rw (← c .0 .0 .1, ← c .0 .1, ← c .1) (omega arith)) (λ rp.
-    done (Vehicles k n d r) ((((refl, refl), refl), refl), refl) (λ t. omega arith) (λ a t c p. sym (c .0 .0 .0 .0) ∙ cc))))))))))))
+  pub begins-activity : stands activityMark (activityBytes a ++ t) ≡ true
+  begins-activity = let k = place a in rw (marked, stands-bytes activityMark (k .row .mark) after-mark (k .right .small)) (k .due)
 
-pub nitrogen-exact : Read asNitrogen nitrogen
-unfolding nitrogen activityBytes joined first second third fourth
-nitrogen-exact =
-    recoded (λ a c. ap activityBytes c)
-    (begin-then _ _ (lit< tt) (λ a t c p. simp (length-append, length-bytes))
-    (field-then _ first (λ a t c p. let q = in-range c p in omega arith) (λ s ls.
-    field-then _ second (λ a t c p. let q = in-range (c .0) p in omega arith) (λ o lo.
-    field-then _ third (λ a t c p. let q = in-range (c .0 .0) p in omega arith) (λ g lg.
-    field-then _ fourth (λ a t c p. let q = in-range (c .0 .0 .0) p in omega arith) (λ n ln.
-    within-then _ _ _ _ (λ a t c p. let q = in-range (c .0 .0 .0 .0) p in omega arith) (λ rs.
-    within-then _ _ _ _ (λ a t c p. let q = in-range (c .0 .0 .0 .0) p in omega arith) (λ ro.
-    within-then _ _ _ _ (λ a t c p. let q = in-range (c .0 .0 .0 .0) p in omega arith) (λ rg.
-    within-then _ _ _ _ (λ a t c p. let q = in-range (c .0 .0 .0 .0) p in omega arith) (λ rn.
-    done (Nitrogen s o g n) ((((refl, refl), refl), refl), refl) (λ t. omega arith) (λ a t c p. sym (c .0 .0 .0 .0) ∙ cc)))))))))))
+pub activity-length : (a : Activity) → length (activityBytes a) ≤ longestRecord
+activity-length a = let k = place a in rw (← k .made) (row-length (k .row) (k .right) (k .numbers))
 
-pub lime-exact : Read asLime lime
-unfolding lime activityBytes joined first second
-lime-exact =
-    recoded (λ a c. ap activityBytes c)
-    (begin-then _ _ (lit< tt) (λ a t c p. simp (length-append, length-bytes))
-    (field-then _ first (λ a t c p. let q = in-range c p in omega arith) (λ m lm.
-    field-then _ second (λ a t c p. let q = in-range (c .0) p in omega arith) (λ g lg.
-    within-then _ _ _ _ (λ a t c p. let q = in-range (c .0 .0) p in omega arith) (λ rm.
-    within-then _ _ _ _ (λ a t c p. let q = in-range (c .0 .0) p in omega arith) (λ rg.
-    done (Lime m g) ((refl, refl), refl) (λ t. omega arith) (λ a t c p. sym (c .0 .0) ∙ cc)))))))
+-- bytes long enough for a mark
+pub activity-is : (s : List ℕ) → 2 ≤ length s → activity s ≡ activityUnder (number (take 2 s)) (drop 2 s)
+unfolding activity field _>>=_ _>>_
+activity-is s h = rw (present-yes 2 s h)
+
+activity-long : (s : List ℕ) {a : Activity} {t : List ℕ} → activity s ≡ accepted a t → 2 ≤ length s
+unfolding activity _>>_
+activity-long s q = present-only 2 s (step (present 2 s) _ q .2) .0
+
+under-row : (m : ℕ) (s : List ℕ) {a : Activity} {t : List ℕ} → activityUnder m s ≡ accepted a t → (l : Layout) × Right l × (m ≡ l .mark) × (fieldsOf l s ≡ accepted a t)
+unfolding activityUnder
+under-row m s q = rowUnder-only layouts all-right m s q
+
+pub under-range : (m : ℕ) (s : List ℕ) {a : Activity} {t : List ℕ} → activityUnder m s ≡ accepted a t → ActivityInRange a
+under-range m s q = let k = under-row m s q in row-range (k .0) s (k .3)
+
+pub activity-exact : Exact 0 Any activity activityBytes (λ (a : Activity) (t : List ℕ). ActivityInRange a)
+activity-exact = record {
+  reads = λ a t c p. reads a t p;
+  only = λ s bs h a t q. let k = only s bs q in (tt, k .0, k .1);
+}
+  where
+    reads : (a : Activity) (t : List ℕ) → ActivityInRange a → activity (activityBytes a ++ t) ≡ accepted a t
+    reads a t p =
+        let k = place a in
+        let h : 2 ≤ length (bytes 2 (k .row .mark) ++ after-mark a t) = simp (length-append, length-bytes) (omega arith) in
+        let i : ActivityInRange (recordOf (k .row .widths) (k .row .made) (k .numbers)) = rw (k .made) p in
+        rw (marked a t, activity-is _ h, take-bytes 2 (k .row .mark) (after-mark a t) (k .right .small), drop-bytes, k .told)
+        (unfold after-mark in row-reads (k .row) (k .right) (k .numbers) t i ∙ ap (λ (x : Activity). accepted x t) (k .made))
+
+    only : (s : List ℕ) → Bytes s → {a : Activity} {t : List ℕ} → activity s ≡ accepted a t → ActivityInRange a × (s ≡ activityBytes a ++ t)
+    only s bs q =
+        let h = activity-long s q in
+        let k = under-row _ _ (sym (activity-is s h) ∙ q) in
+        (row-range (k .0) _ (k .3), split 2 s bs h ∙ rw (k .2) (row-only (k .0) (k .1) (drop 2 s) (bytes-drop 2 s bs) (k .3)))

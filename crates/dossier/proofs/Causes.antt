@@ -1,100 +1,114 @@
 -- Every refusal has a number from 1 to 9.
 -- Assumes nothing.
-use Prim.Native.Nat.{ℕ, zero, suc}
+use Prim.Native.Nat.{ℕ}
+use mathlib.Core.Path.{_≡_, refl}
 use mathlib.Core.Bool.{Bool, true, false, cond}
-use mathlib.Core.Option.{none, some}
-use mathlib.Core.List.{List, [], _∷_, _++_}
+use mathlib.Core.List.{List}
 use native.Mathlib.Omega.{arith}
-use lib.Dec.{eqb}
-use Rattle.activity.specs.declared.Activity.{Activity}
-use Rattle.figures.specs.Year.{Year}
-use Rattle.dossier.specs.Marks.{FU, VE, NI, YR, EN}
-use Rattle.dossier.specs.Records.{Due, next}
-use Rattle.dossier.specs.Reader.{_>>=_, give, is, within}
-use Rattle.dossier.specs.JudgingRecords.{head, areas, rows, matrix, matrixUnder, conversions, fuel, vehicles, nitrogen, lime, activityMark, activity}
-use Rattle.dossier.specs.Judging.{opening, run, activities, noneLeft, yearRecords, yearLeft, year, end, years, dossier, openingPiece, yearPiece}
-use Rattle.dossier.proofs.Refusals.{Numbered}
-use Rattle.dossier.proofs.CauseSteps.{bind, seq, choice, given, refusal, marks, begins, a-field, some-fields, withins, equals, nothings, piece-ends}
+use lib.Dec.{ltb, eqb}
+use lib.ListN.{length, take, drop}
+use Rattle.wire.specs.Bytes.{number}
+use Rattle.dossier.specs.Records.{Due}
+use Rattle.dossier.specs.Reader.{Judged, refused, accepted, Reader, after, _>>=_, _>>_, give, refuse, mark, stands, upon, present, field, fields, nothing, endOfPiece}
+use Rattle.dossier.specs.Judging.{dossier, openingPiece, yearPiece}
+use Rattle.dossier.proofs.ReaderLaws.{never}
+use Rattle.dossier.proofs.Walk.{Cause, Closed, openings, a-year, some-years}
 
--- ---- the records
-heads : Numbered head
-unfolding head
-heads =
-    seq (begins _ _) (bind (a-field _) (λ o. bind (a-field _) (λ f. bind (a-field _) (λ y.
-    seq (withins _ _ _ _ (omega arith)) (seq (withins _ _ _ _ (omega arith)) (seq (withins _ _ _ _ (omega arith)) (given _)))))))
+abbrev pub Numbered : {A : Type 0} → Reader A → Type 0
+Numbered r = (s : List ℕ) (n : ℕ) → r s ≡ refused n → Cause n
 
-some-areas : (m least : ℕ) → Numbered (areas m least)
-unfolding areas
-some-areas m least = seq (begins _ _) (bind (some-fields _ _) (λ xs. seq (withins _ _ _ _ (omega arith)) (given _)))
+-- ---- the steps
+said : {A : Type 0} (m n : ℕ) → _≡_ {A = Judged A} (refused m) (refused n) → Cause m → Cause n
+said m n e c = let z : m ≡ n = cc in rw z at c
 
-some-rows : (k : ℕ) (xs : List ℕ) → Numbered (rows k xs)
-unfolding rows
-some-rows zero xs = given tt
-some-rows (suc k) xs = seq (some-rows k xs) (equals _ _ _ (omega arith))
-
-under : (option : ℕ) → Numbered (matrixUnder option)
-unfolding matrixUnder matrix
-under option = go (eqb option 2)
+bind : {A B : Type 0} {r : Reader A} {k : A → Reader B} → Numbered r → ((a : A) → Numbered (k a)) → Numbered (r >>= k)
+unfolding _>>=_
+bind {A} {B} {r} {k} x y s n e = go (r s) refl e
   where
-    go : (b : Bool) → Numbered (cond b (matrix >>= λ xs. give (some xs)) (give none))
-    go true = bind (seq (begins _ _) (bind (some-fields _ _) (λ xs. seq (some-rows _ xs) (given _)))) (λ xs. given _)
-    go false = given none
+    go : (j : Judged A) → r s ≡ j → after j k ≡ refused n → Cause n
+    go (refused m) h e = said m n e (x s m h)
+    go (accepted a t) h e = y a t n e
 
-openings : Numbered opening
-unfolding opening
-openings = bind heads (λ h. bind (some-areas _ _) (λ p. bind (some-areas _ _) (λ b. bind (under (h .option)) (λ m. given _))))
+seq : {A B : Type 0} {r : Reader A} {q : Reader B} → Numbered r → Numbered q → Numbered (r >> q)
+unfolding _>>_ _>>=_
+seq x y = bind x (λ _. y)
 
-some-conversions : (m settledTotal : ℕ) → Numbered (conversions m settledTotal)
-unfolding conversions
-some-conversions m settledTotal = seq (begins _ _) (bind (some-fields _ _) (λ xs. seq (equals _ _ _ (omega arith)) (given _)))
-
-eights : (low x high : ℕ) → Numbered (within 8 low x high)
-eights low x high = withins 8 low x high (omega arith)
-
-an-activity : Numbered activity
-unfolding activity fuel vehicles nitrogen lime
-an-activity =
-    choice (is FU) (seq (begins _ _) (bind (a-field _) (λ k. bind (a-field _) (λ g. seq (eights _ _ _) (seq (eights _ _ _) (given _))))))
-    (choice (is VE) (seq (begins _ _) (bind (a-field _) (λ k. bind (a-field _) (λ n. bind (a-field _) (λ d. bind (a-field _) (λ r.
-    seq (eights _ _ _) (seq (eights _ _ _) (seq (eights _ _ _) (seq (eights _ _ _) (seq (eights _ _ _) (given _)))))))))))
-    (choice (is NI) (seq (begins _ _) (bind (a-field _) (λ s. bind (a-field _) (λ c. bind (a-field _) (λ g. bind (a-field _) (λ h.
-    seq (eights _ _ _) (seq (eights _ _ _) (seq (eights _ _ _) (seq (eights _ _ _) (given _))))))))))
-    (seq (begins _ _) (bind (a-field _) (λ m. bind (a-field _) (λ g. seq (eights _ _ _) (seq (eights _ _ _) (given _))))))))
-
-runs : (k : ℕ) (before : List Activity) → Numbered (run k before)
-unfolding run
-runs zero before = choice activityMark (refusal _ (omega arith)) (given before)
-runs (suc k) before = choice activityMark (bind an-activity (λ a. runs k (before ++ (a ∷ [])))) (given before)
-
--- ---- the years, and the whole
-none-lefts : {A : Type 0} → Numbered (noneLeft {A = A})
-unfolding noneLeft
-none-lefts = seq (begins _ _) (refusal _ (omega arith))
-
-a-year : (due : Due) → Numbered (year due)
-unfolding year yearLeft yearRecords activities
-a-year due = go (eqb (due .state .left) 0)
+choice : {A : Type 0} {r q : Reader A} (kind : ℕ → Bool) → Numbered r → Numbered q → Numbered (upon kind r q)
+unfolding upon
+choice {A} {r} {q} kind x y s n e = go (stands kind s) e
   where
-    go : (b : Bool) → Numbered (cond b noneLeft (yearRecords (due .state .year) (due .terms .start .0) (due .terms .beltstart .0)))
-    go true = none-lefts
-    go false =
-        seq (begins _ _) (bind (a-field _) (λ y. bind (a-field _) (λ d.
-        seq (equals _ _ _ (omega arith)) (seq (withins _ _ _ _ (omega arith))
-        (bind (some-conversions _ _) (λ p. bind (some-conversions _ _) (λ b. bind (runs _ []) (λ l. given _))))))))
+    go : (b : Bool) → cond b (r s) (q s) ≡ refused n → Cause n
+    go true e = x s n e
+    go false e = y s n e
 
-some-years : (k : ℕ) (due : Due) (before : List Year) → Numbered (years k due before)
-unfolding years end
-some-years zero due before = seq (choice (is YR) none-lefts (seq (marks EN) nothings)) (given before)
-some-years (suc k) due before = bind (a-year due) (λ y. some-years k (next y due) (before ++ (y ∷ [])))
+given : {A : Type 0} (a : A) → Numbered (give a)
+unfolding give
+given a s n e = never a s n e
 
+refusal : {A : Type 0} (m : ℕ) → Cause m → Numbered (refuse {A = A} m)
+unfolding refuse
+refusal m c s n e = said m n e c
+
+-- a test, with m on either side
+tested : {A : Type 0} (b : Bool) (m : ℕ) (j : Judged A) (n : ℕ) → Cause m → (j ≡ refused n → Cause n) → cond b (refused m) j ≡ refused n → Cause n
+tested true m j n c f e = said m n e c
+tested false m j n c f e = f e
+
+passed : {A : Type 0} (b : Bool) (m : ℕ) (j : Judged A) (n : ℕ) → Cause m → (j ≡ refused n → Cause n) → cond b j (refused m) ≡ refused n → Cause n
+passed true m j n c f e = f e
+passed false m j n c f e = said m n e c
+
+marks : (m : ℕ) → Numbered (mark m)
+unfolding mark
+marks m s n e = tested (ltb (length s) 2) 1 _ n (omega arith) (passed (eqb (number (take 2 s)) m) 2 _ n (omega arith) (never tt (drop 2 s) n)) e
+
+presents : (k : ℕ) → Numbered (present k)
+unfolding present
+presents k s n e = tested (ltb (length s) k) 1 _ n (omega arith) (never tt s n) e
+
+a-field : (w : ℕ) → Numbered (field w)
+unfolding field
+a-field w s n e = never _ _ n e
+
+some-fields : (k w : ℕ) → Numbered (fields k w)
+unfolding fields
+some-fields k w s n e = never _ _ n e
+
+nothings : Numbered nothing
+unfolding nothing
+nothings s n e = tested (ltb 0 (length s)) 2 _ n (omega arith) (never tt s n) e
+
+piece-ends : Numbered endOfPiece
+unfolding endOfPiece
+piece-ends s n e = tested (eqb (length s) 1) 1 (nothing s) n (omega arith) (nothings s n) e
+
+-- however many bytes there are
+abbrev AlwaysNumbered : (A : Type 0) → ℕ → Reader A → Type 0
+AlwaysNumbered A m r = Numbered r
+
+numbered : Closed AlwaysNumbered
+numbered = record {
+  bind = λ x y. bind x y;
+  more = λ x h. x;
+  choice = λ kind x y h. choice kind x y;
+  present = λ x h. seq (presents _) x;
+  give = λ a. given a;
+  refuse = λ n h. refusal n h;
+  field = λ w. a-field w;
+  fields = λ k w. some-fields k w;
+  mark = λ m. marks m;
+  nothing = nothings;
+}
+
+-- ---- the whole, and the pieces
 pub dossier-causes : Numbered dossier
 unfolding dossier
-dossier-causes = bind openings (λ o. bind (some-years _ _ _) (λ l. given _))
+dossier-causes = bind (openings AlwaysNumbered numbered) (λ o. bind (some-years AlwaysNumbered numbered _ _ _) (λ l. given _))
 
 pub openingPiece-causes : Numbered openingPiece
 unfolding openingPiece
-openingPiece-causes = bind openings (λ o. seq piece-ends (given o))
+openingPiece-causes = bind (openings AlwaysNumbered numbered) (λ o. seq piece-ends (given o))
 
 pub yearPiece-causes : (due : Due) → Numbered (yearPiece due)
 unfolding yearPiece
-yearPiece-causes due = bind (a-year due) (λ y. seq piece-ends (given y))
+yearPiece-causes due = bind (a-year AlwaysNumbered numbered due) (λ y. seq piece-ends (given y))

@@ -2,12 +2,10 @@
 -- Assumes nothing.
 use Prim.Native.Nat.{ℕ}
 use mathlib.Core.Path.{_≡_, refl, _∙_, ap, sym}
-use mathlib.Core.Bool.{Bool, true, false, cond}
-use mathlib.Core.Logic.{_⊎_, inl, inr}
 use mathlib.Core.List.{List, [], _++_, append-assoc, append-nil}
 use native.Mathlib.Omega.{arith}
 use Rattle.wire.specs.Bytes.{Bytes}
-use Rattle.dossier.specs.Reader.{accepted, Reader, _>>=_, _>>_, give, stands, upon, endOfPiece}
+use Rattle.dossier.specs.Reader.{accepted, Reader, _>>=_, _>>_, give, endOfPiece}
 use Rattle.wire.proofs.BytesLaws.{bytes-after}
 use Rattle.dossier.proofs.ReaderLaws.{step, was}
 use Rattle.dossier.proofs.Refusals.{piece-ends, piece-ends-only}
@@ -52,24 +50,6 @@ module _ {B : Type 0} {C : B → Type 0} {P : B → List ℕ → Type 0} where
         let o : get b ≡ i .0 = rw m at (l .2) in
         (rw m at (l .0), rw m at (l .1), j .2 ∙ rw (append-nil, o, u));
   }
-
-  -- one reader where a mark of that kind stands, otherwise another
-  pub choose : {D : B → Type 0} {r q : Reader B} {e : B → List ℕ} (kind : ℕ → Bool) → Exact 0 C r e P → Exact 0 D q e P
-      → ((b : B) (t : List ℕ) → C b → P b t → stands kind (e b ++ t) ≡ true) → ((b : B) (t : List ℕ) → D b → P b t → stands kind (e b ++ t) ≡ false)
-      → Exact 0 (λ b. C b ⊎ D b) (upon kind r q) e P
-  unfolding upon
-  choose {D} {r} {q} {e} kind x y yes-stands no-stands = record {
-    reads = λ b t c p. go b t c p;
-    only = λ s bs h b t k. back s bs b t (stands kind s) k;
-  }
-    where
-      go : (b : B) (t : List ℕ) → C b ⊎ D b → P b t → upon kind r q (e b ++ t) ≡ accepted b t
-      go b t (inl c) p = rw (yes-stands b t c p) (x .reads b t c p)
-      go b t (inr d) p = rw (no-stands b t d p) (y .reads b t d p)
-
-      back : (s : List ℕ) → Bytes s → (b : B) (t : List ℕ) (h : Bool) → cond h (r s) (q s) ≡ accepted b t → (C b ⊎ D b) × P b t × (s ≡ e b ++ t)
-      back s bs b t true k = let i = x .only s bs (omega arith) b t k in (inl (i .0), i .1, i .2)
-      back s bs b t false k = let i = y .only s bs (omega arith) b t k in (inr (i .0), i .1, i .2)
 
   -- what a value in range has anyhow need not be known
   pub known : {n : ℕ} {r : Reader B} {e : B → List ℕ} → ((b : B) (t : List ℕ) → P b t → C b) → Exact n C r e P → Exact n (λ b. Unit {0}) r e P

@@ -2,17 +2,19 @@
 -- Assumes nothing.
 use Prim.Native.Nat.{ℕ}
 use mathlib.Core.Path.{_≡_, refl}
-use mathlib.Core.List.{List, [], _∷_}
+use mathlib.Core.List.{List, [], _∷_, map}
 use lib.ListN.{take, set}
 use Rattle.arithmetic.specs.Sum.{sum, listed}
 use Rattle.classes.specs.Classes.{deforestationProbabilities}
 use Rattle.classes.specs.Matrix.{optionOne, optionOneMatrix}
+use Rattle.activity.specs.declared.Activity.{Activity}
 use Rattle.activity.specs.declared.Activity.the-variants.{Fuel, Vehicles, Nitrogen, Lime}
-use Rattle.wire.specs.Bytes.{number, bytes, numbers, bytesOfEach, joined}
+use Rattle.wire.specs.Bytes.{number, bytes, numbers, bytesOfEach, joined, total}
 use Rattle.dossier.specs.Marks.{HD}
-use Rattle.dossier.specs.Records.{matrixBytes, activityBytes}
-use Rattle.dossier.specs.Reader.{numberOf, _>>=_, _>>_, give, mark, stands, upon, present, begin, field, fields, outside, within, equal}
-use Rattle.dossier.specs.JudgingRecords.{head, rows, matrix, fuel, vehicles, nitrogen, lime, activity}
+use Rattle.dossier.specs.Layouts.{activityBytes}
+use Rattle.dossier.specs.Records.{matrixBytes}
+use Rattle.dossier.specs.Reader.{numberOf, _>>=_, _>>_, give, mark, present, begin, field, fields, outside, within, equal}
+use Rattle.dossier.specs.JudgingRecords.{head, rows, matrix, inRange, fieldsOf, activityUnder, activity}
 
 -- HD with its three fields
 abbrev headOf : ℕ → ℕ → ℕ → List ℕ
@@ -28,10 +30,23 @@ matrices : (numberOf (matrix (matrixBytes optionOneMatrix)) ≡ 0) × (numberOf 
 unfolding sum listed deforestationProbabilities optionOne optionOneMatrix number bytes numbers bytesOfEach joined matrixBytes _>>=_ _>>_ give mark present begin fields equal rows matrix
 matrices = (refl, refl)
 
--- one activity record of each kind at its limits, and just beyond
-records : (numberOf (activity (activityBytes (Fuel 3 1000000000000))) ≡ 0) × (numberOf (activity (activityBytes (Fuel 4 0))) ≡ 8)
-    × (numberOf (activity (activityBytes (Vehicles 1 1000 10000 100000))) ≡ 0) × (numberOf (activity (activityBytes (Vehicles 1 1000 10001 100000))) ≡ 8)
-    × (numberOf (activity (activityBytes (Nitrogen 3 2 10000000000 10000))) ≡ 0) × (numberOf (activity (activityBytes (Nitrogen 3 3 0 0))) ≡ 8)
-    × (numberOf (activity (activityBytes (Lime 3 0))) ≡ 0) × (numberOf (activity (activityBytes (Lime 0 1))) ≡ 8)
-unfolding number bytes joined activityBytes _>>=_ _>>_ give mark stands upon present begin field outside within fuel vehicles nitrogen lime activity
-records = (refl, refl, refl, refl, refl, refl, refl, refl)
+-- each limit of an activity record, and its neighbour out of range; 394 × 501,001 × 5,066 is 10^12 + 4, the least product of VE above its limit
+abbrev limits : List (Activity × Activity)
+limits =
+    (Fuel 1 0, Fuel 0 0) ∷ (Fuel 3 0, Fuel 4 0) ∷ (Fuel 1 1_000_000_000_000, Fuel 1 1_000_000_000_001)
+    ∷ (Vehicles 1 0 0 0, Vehicles 0 0 0 0) ∷ (Vehicles 3 0 0 0, Vehicles 4 0 0 0) ∷ (Vehicles 1 1_000 0 0, Vehicles 1 1_001 0 0)
+    ∷ (Vehicles 1 0 1_000_000 0, Vehicles 1 0 1_000_001 0) ∷ (Vehicles 1 0 0 100_000, Vehicles 1 0 0 100_001)
+    ∷ (Vehicles 1 1_000 10_000 100_000, Vehicles 1 394 501_001 5_066)
+    ∷ (Nitrogen 1 1 0 0, Nitrogen 0 1 0 0) ∷ (Nitrogen 3 1 0 0, Nitrogen 4 1 0 0) ∷ (Nitrogen 1 1 0 0, Nitrogen 1 0 0 0) ∷ (Nitrogen 1 2 0 0, Nitrogen 1 3 0 0)
+    ∷ (Nitrogen 1 1 10_000_000_000 0, Nitrogen 1 1 10_000_000_001 0) ∷ (Nitrogen 1 1 0 10_000, Nitrogen 1 1 0 10_001)
+    ∷ (Lime 1 0, Lime 0 0) ∷ (Lime 3 0, Lime 4 0) ∷ (Lime 1 1_000_000_000_000, Lime 1 1_000_000_000_001)
+    ∷ []
+
+-- from the bytes: the limit is taken, its neighbour 8
+abbrev numberFrom : Activity → ℕ
+numberFrom a = numberOf (activity (activityBytes a))
+
+limits-hold : (map (λ (l : Activity × Activity). numberFrom (l .0)) limits ≡ map (λ (l : Activity × Activity). 0) limits)
+    × (map (λ (l : Activity × Activity). numberFrom (l .1)) limits ≡ map (λ (l : Activity × Activity). 8) limits)
+unfolding number bytes total activityBytes _>>=_ _>>_ give present field outside within inRange fieldsOf activityUnder activity
+limits-hold = (refl, refl)

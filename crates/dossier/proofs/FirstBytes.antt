@@ -1,123 +1,30 @@
 -- The first 65,536 bytes settle what any bytes are judged to be as a dossier.
 -- Assumes nothing.
-use Prim.Native.Nat.{ℕ, zero, suc, _+_, _*_, _<_, _≤_}
+use Prim.Native.Nat.{ℕ, _<_, _≤_}
 use mathlib.Core.Path.{_≡_, refl, _∙_, ap, sym}
-use mathlib.Core.Bool.{Bool, true, false, cond}
-use mathlib.Core.Option.{none, some}
-use mathlib.Core.List.{List, [], _∷_, _++_}
+use mathlib.Core.Bool.{Bool, true, false}
+use mathlib.Core.List.{List, _++_}
 use native.Mathlib.Omega.{arith}
 use borrow.Author.Tests.{ltb-true, ltb-false}
-use lib.Dec.{ltb, eqb}
+use lib.Dec.{ltb}
 use lib.ListN.{length, take, drop, take-append-drop}
 use lib.Seq.{length-take-le, take-all}
-use Rattle.activity.specs.declared.Activity.{Activity}
-use Rattle.figures.specs.Year.{Year}
 use Rattle.wire.specs.Bytes.{Bytes}
-use Rattle.dossier.specs.Marks.{FU, VE, NI, YR, EN}
-use Rattle.dossier.specs.Records.{Due, next, Dossier}
-use Rattle.dossier.specs.Reader.{Judged, refused, accepted, Reader, _>>=_, _>>_, give, is, begin}
-use Rattle.dossier.specs.JudgingRecords.{head, areas, rows, matrix, matrixUnder, conversions, fuel, vehicles, nitrogen, lime, activityMark, activity}
-use Rattle.dossier.specs.Judging.{opening, run, activities, noneLeft, yearRecords, yearLeft, year, end, years, dossier}
+use Rattle.dossier.specs.Records.{Dossier}
+use Rattle.dossier.specs.Reader.{Judged, refused, accepted}
+use Rattle.dossier.specs.Judging.{dossier}
 use Rattle.wire.proofs.BytesLaws.{bytes-take}
 use Rattle.dossier.proofs.OpeningLaws.{opening-exact}
 use Rattle.dossier.proofs.Longest.{longest}
-use Rattle.dossier.proofs.SettleSteps.{andLeft, Settles, bind-alike, bind, seq, more, choice, given, refusal, withins, equals, a-field, some-fields, marks, begins, nothings}
-
--- ---- the records: each is settled by its own bytes
-a-record : {A : Type 0} {n : ℕ} {r : Reader A} (m : ℕ) → Settles n r → Settles (2 + n) (begin m n >> r)
-a-record m x = begins m x (omega arith)
-
-heads : Settles 6 head
-unfolding head
-heads =
-    a-record _ (bind (a-field 1) (λ o. bind (a-field 2) (λ f. bind (a-field 1) (λ y.
-    seq (withins _ _ _ _) (seq (withins _ _ _ _) (seq (withins _ _ _ _) (given _)))))))
-
-some-areas : (m least : ℕ) → Settles 98 (areas m least)
-unfolding areas
-some-areas m least = a-record _ (bind (some-fields 12 8) (λ xs. seq (withins _ _ _ _) (given _)))
-
-some-rows : (k : ℕ) (xs : List ℕ) → Settles 0 (rows k xs)
-unfolding rows
-some-rows zero xs = given tt
-some-rows (suc k) xs = seq (some-rows k xs) (equals _ _ _)
-
-under : (option : ℕ) → Settles 578 (matrixUnder option)
-unfolding matrixUnder matrix
-under option = go (eqb option 2)
-  where
-    go : (b : Bool) → Settles 578 (cond b (matrix >>= λ xs. give (some xs)) (give none))
-    go true = bind (a-record _ (bind (some-fields 144 4) (λ xs. seq (some-rows _ xs) (given _)))) (λ xs. given _)
-    go false = more (given none) (omega arith)
-
-openings : Settles 780 opening
-unfolding opening
-openings = bind heads (λ h. bind (some-areas _ _) (λ p. bind (some-areas _ _) (λ b. bind (under (h .option)) (λ m. given _))))
-
-some-conversions : (m settledTotal : ℕ) → Settles 1154 (conversions m settledTotal)
-unfolding conversions
-some-conversions m settledTotal = a-record _ (bind (some-fields 144 8) (λ xs. seq (equals _ _ _) (given _)))
-
-a-fuel : Settles 11 fuel
-unfolding fuel
-a-fuel = a-record _ (bind (a-field 1) (λ k. bind (a-field 8) (λ g. seq (withins _ _ _ _) (seq (withins _ _ _ _) (given _)))))
-
-a-vehicles : Settles 15 vehicles
-unfolding vehicles
-a-vehicles =
-    a-record _ (bind (a-field 1) (λ k. bind (a-field 4) (λ n. bind (a-field 4) (λ d. bind (a-field 4) (λ r.
-    seq (withins _ _ _ _) (seq (withins _ _ _ _) (seq (withins _ _ _ _) (seq (withins _ _ _ _) (seq (withins _ _ _ _) (given _))))))))))
-
-a-nitrogen : Settles 14 nitrogen
-unfolding nitrogen
-a-nitrogen =
-    a-record _ (bind (a-field 1) (λ s. bind (a-field 1) (λ c. bind (a-field 8) (λ g. bind (a-field 2) (λ h.
-    seq (withins _ _ _ _) (seq (withins _ _ _ _) (seq (withins _ _ _ _) (seq (withins _ _ _ _) (given _)))))))))
-
-a-lime : Settles 11 lime
-unfolding lime
-a-lime = a-record _ (bind (a-field 1) (λ m. bind (a-field 8) (λ g. seq (withins _ _ _ _) (seq (withins _ _ _ _) (given _)))))
-
-an-activity : Settles 15 activity
-unfolding activity
-an-activity =
-    choice (is FU) (more a-fuel (omega arith))
-    (choice (is VE) a-vehicles (choice (is NI) (more a-nitrogen (omega arith)) (more a-lime (omega arith)) (omega arith)) (omega arith)) (omega arith)
-
--- k activity records, and the mark after them
-runs : (k : ℕ) (before : List Activity) → Settles (k * 15 + 2) (run k before)
-unfolding run
-runs zero before = choice activityMark (more (refusal 9) (omega arith)) (more (given before) (omega arith)) (omega arith)
-runs (suc k) before =
-    choice activityMark (more (bind an-activity (λ a. runs k (before ++ (a ∷ [])))) (omega arith)) (more (given before) (omega arith)) (omega arith)
-
--- ---- the years, and the whole
-none-lefts : {A : Type 0} → Settles 6 (noneLeft {A = A})
-unfolding noneLeft
-none-lefts = a-record _ (more (refusal 6) (omega arith))
-
-a-year : (due : Due) → Settles 3216 (year due)
-unfolding year yearLeft yearRecords activities
-a-year due = go (eqb (due .state .left) 0)
-  where
-    go : (b : Bool) → Settles 3216 (cond b noneLeft (yearRecords (due .state .year) (due .terms .start .0) (due .terms .beltstart .0)))
-    go true = more none-lefts (omega arith)
-    go false =
-        begins _ (bind (a-field 2) (λ y. bind (a-field 2) (λ d. seq (equals _ _ _) (seq (withins _ _ _ _)
-        (bind (some-conversions _ _) (λ p. bind (some-conversions _ _) (λ b. bind (runs 60 []) (λ l. given _)))))))) (omega arith)
-
--- k years; then EN and a byte after it, or YR with its fields
-some-years : (k : ℕ) (due : Due) (before : List Year) → Settles (k * 3216 + 6) (years k due before)
-unfolding years end
-some-years zero due before = seq (choice (is YR) none-lefts (more (seq (marks EN) nothings) (omega arith)) (omega arith)) (given before)
-some-years (suc k) due before = more (bind (a-year due) (λ y. some-years k (next y due) (before ++ (y ∷ [])))) (omega arith)
+use Rattle.dossier.proofs.Walk.{openings, some-years}
+use Rattle.dossier.proofs.SettleSteps.{andLeft, SettledBy, settles, bind-alike, bind, given}
 
 -- 780 + 20 × 3,216 + 6 bytes, for an opening read from bytes has at most 20 years
 dossier-alike : (s t : List ℕ) → Bytes s → 65106 ≤ length s → dossier (s ++ t) ≡ andLeft t (dossier s)
 unfolding dossier
-dossier-alike s t bs h = bind-alike _ openings 64326 s t h (λ o u e l.
+dossier-alike s t bs h = bind-alike _ (openings SettledBy settles) 64326 s t h (λ o u e l.
     let n = opening-exact .only s bs (omega arith) o u e .1 .head .count .most in
-    bind (some-years _ _ _) (λ ys. given _) .alike u t (omega arith))
+    bind (some-years SettledBy settles _ _ _) (λ ys. given _) .alike u t (omega arith))
 
 -- none so long is accepted
 long-alike : (s t : List ℕ) → Bytes s → 65106 ≤ length s → dossier (s ++ t) ≡ dossier s

@@ -14,27 +14,23 @@ use Rattle.classes.specs.Calendar.{daysInYear}
 use Rattle.classes.specs.Matrix.{optionOne, optionOneMatrix}
 use Rattle.classes.proofs.MatrixLaws.{option-one-rows}
 use Rattle.activity.specs.declared.Activity.{Activity}
-use Rattle.activity.specs.declared.Activity.the-variants.{Fuel, Vehicles, Nitrogen, Lime}
+use Rattle.activity.specs.declared.Activity.the-variants.{Vehicles}
 use Rattle.activity.specs.Activity.{ActivitiesInRange}
 use Rattle.figures.specs.Year.{Year}
 use Rattle.figures.specs.Reckoning.{afterFigures, afterYear}
 use Rattle.wire.specs.Bytes.{Bytes, bytes, bytesOfEach, joined, total}
-use Rattle.dossier.specs.Records.{headBytes, areasBytes, matrixBytes, MatrixUnder, Opening, OpeningInRange, optionBytes, openingBytes, termsOf, stateOf, Due, settled, next, conversionsBytes, activityBytes, YearInRange, yearBytes, YearsInRange, Dossier, DossierInRange, dossierBytes}
+use Rattle.dossier.specs.Layouts.{activityBytes}
+use Rattle.dossier.specs.Records.{headBytes, areasBytes, matrixBytes, MatrixUnder, Opening, OpeningInRange, optionBytes, openingBytes, termsOf, stateOf, Due, settled, next, conversionsBytes, YearInRange, yearBytes, YearsInRange, Dossier, DossierInRange, dossierBytes}
 use Rattle.dossier.specs.Reader.{accepted}
 use Rattle.dossier.specs.Judging.{dossier}
 use Rattle.wire.proofs.BytesLaws.{length-bytes, length-each}
+use Rattle.dossier.proofs.LayoutLaws.{longestRecord}
+use Rattle.dossier.proofs.ActivityLaws.{activity-length}
 use Rattle.dossier.proofs.WellFormed.{dossier-accepted}
 
 ruleset lengths = (length-append, length-bytes, length-each)
 
-activity-length : (a : Activity) → length (activityBytes a) ≤ 15
-unfolding activityBytes joined
-activity-length (Fuel _ _) = simp lengths (omega arith)
-activity-length (Vehicles _ _ _ _) = simp lengths (omega arith)
-activity-length (Nitrogen _ _ _ _) = simp lengths (omega arith)
-activity-length (Lime _ _) = simp lengths (omega arith)
-
-run-length : (l : List Activity) → length (joined (map activityBytes l)) ≤ length l * 15
+run-length : (l : List Activity) → length (joined (map activityBytes l)) ≤ length l * longestRecord
 unfolding joined
 run-length [] = omega arith
 run-length (a ∷ l) = let h = activity-length a in let k = run-length l in simp length-append (omega arith)

@@ -10,8 +10,7 @@ use Rattle.dossier.specs.Records.{Due, DueInRange, WellFormed, WellForme
 use Rattle.dossier.specs.Reader.{Judged, refused, accepted, Reader, numberOf}
 use Rattle.dossier.specs.Judging.{dossier, openingPiece, yearPiece}
 use Rattle.dossier.specs.Claims.{AcceptedExactly}
-use Rattle.dossier.proofs.Causes.{dossier-causes, openingPiece-causes, yearPiece-causes}
-use Rattle.dossier.proofs.Refusals.{Numbered}
+use Rattle.dossier.proofs.Causes.{Numbered, dossier-causes, openingPiece-causes, yearPiece-causes}
 use Rattle.dossier.proofs.WellFormed.{dossier-accepted, opening-accepted, year-accepted}
 
 number-zero : {A : Type 0} {r : Reader A} {Q : A → Type 0} {e : A → List ℕ} → AcceptedExactly r Q e → Numbered r

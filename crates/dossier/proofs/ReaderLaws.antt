@@ -10,7 +10,7 @@ use lib.Dec.{ltb, eqb}
 use lib.ListN.{length, take, drop, length-append}
 use Rattle.activity.specs.Activity.{Within}
 use Rattle.wire.specs.Bytes.{Bytes, number, bytes}
-use Rattle.dossier.specs.Reader.{Judged, refused, accepted, Reader, after, _>>_, mark, begin, stands, present, outside, within, equal, nothing}
+use Rattle.dossier.specs.Reader.{Judged, refused, accepted, Reader, after, _>>=_, _>>_, mark, begin, stands, present, outside, within, equal, nothing}
 use Rattle.wire.proofs.BytesLaws.{length-bytes, split, take-bytes, drop-bytes}
 
 -- no refusal is an acceptance, and no acceptance a refusal
@@ -25,6 +25,33 @@ pub step : {A B : Type 0} (j : Judged A) (f : A → Reader B) {b : B} {t : List 
     → (a : A) × (u : List ℕ) × (j ≡ accepted a u) × (f a u ≡ accepted b t)
 step (refused n) f e = no _ _ _ e
 step (accepted a u) f e = (a, u, refl, e)
+
+pub bind-only : {A B G : Type 0} (r : Reader A) (k : A → Reader B) (s : List ℕ) {b : B} {t : List ℕ} → (r >>= k) s ≡ accepted b t
+    → ((a : A) (u : List ℕ) → r s ≡ accepted a u → k a u ≡ accepted b t → G) → G
+unfolding _>>=_
+bind-only r k s q f = let w = step (r s) k q in f (w .0) (w .1) (w .2) (w .3)
+
+pub then-only : {A B G : Type 0} (r : Reader A) (q : Reader B) (s : List ℕ) {b : B} {t : List ℕ} → (r >> q) s ≡ accepted b t
+    → ((a : A) (u : List ℕ) → r s ≡ accepted a u → q u ≡ accepted b t → G) → G
+unfolding _>>_
+then-only r q s e f = let w = step (r s) (λ _. q) e in f (w .0) (w .1) (w .2) (w .3)
+
+-- one reader after another, from what the first one gives: its refusal is the whole's
+pub bind-no : {A B : Type 0} (r : Reader A) (k : A → Reader B) (u : List ℕ) (n : ℕ) → refused n ≡ r u → refused n ≡ (r >>= k) u
+unfolding _>>=_
+bind-no r k u n e = rw (← e)
+
+pub bind-yes : {A B : Type 0} (r : Reader A) (k : A → Reader B) (u : List ℕ) (a : A) (v : List ℕ) → accepted a v ≡ r u → k a v ≡ (r >>= k) u
+unfolding _>>=_
+bind-yes r k u a v e = rw (← e)
+
+pub bind-bind : {A B C : Type 0} (j : Judged A) (k : A → Reader B) (g : B → Reader C) → after (after j k) g ≡ after j (λ a u. after (k a u) g)
+bind-bind (refused n) k g = refl
+bind-bind (accepted a u) k g = refl
+
+pub after-same : {A B : Type 0} (j : Judged A) (k l : A → Reader B) → ((a : A) (u : List ℕ) → k a u ≡ l a u) → after j k ≡ after j l
+after-same (refused n) k l h = refl
+after-same (accepted a u) k l h = h a u
 
 pub was : {A : Type 0} {a b : A} {s t : List ℕ} → accepted a s ≡ accepted b t → (a ≡ b) × (s ≡ t)
 was e = (cc, cc)

@@ -7,42 +7,40 @@ use mathlib.Core.List.{List, [], _∷_, _++_}
 use native.Mathlib.Omega.{arith}
 use borrow.Author.Tests.{lt-ltb, le-ltb, eq-eqb, ne-eqb}
 use lib.Dec.{ltb, eqb, lit<}
-use lib.ListN.{length, take}
+use lib.ListN.{length, take, drop}
 use Rattle.activity.specs.declared.Activity.{Activity}
-use Rattle.activity.specs.Activity.{Within}
 use Rattle.wire.specs.Bytes.{number, bytes}
 use Rattle.dossier.specs.Marks.{YR, EN}
 use Rattle.dossier.specs.Records.{Due, Dossier}
-use Rattle.dossier.specs.Reader.{refused, accepted, Reader, after, _>>=_, _>>_, refuse, mark, stands, is, upon, present, begin, nothing, endOfPiece}
+use Rattle.dossier.specs.Reader.{refused, accepted, Reader, after, _>>_, refuse, mark, stands, is, upon, present, begin, nothing, endOfPiece}
 use Rattle.dossier.specs.JudgingRecords.{activityMark}
 use Rattle.dossier.specs.Judging.{run, activities, noneLeft, yearRecords, yearLeft, year, end}
 use Rattle.dossier.proofs.ReaderLaws.{no, was, mark-yes, stands-bytes}
 
--- the causes of bytes have the numbers 1 to 9
-abbrev pub Numbered : {A : Type 0} → Reader A → Type 0
-Numbered r = (s : List ℕ) (n : ℕ) → r s ≡ refused n → Within 1 n 9
-
 -- "the first fault counts"
-pub first-fault : {A B : Type 0} (r : Reader A) (f : A → Reader B) (s : List ℕ) (n : ℕ) → r s ≡ refused n → (r >>= f) s ≡ refused n
-unfolding _>>=_
-first-fault r f s n e = rw e
-
-pub first-fault′ : {A B : Type 0} (r : Reader A) (q : Reader B) (s : List ℕ) (n : ℕ) → r s ≡ refused n → (r >> q) s ≡ refused n
+pub first-fault : {A B : Type 0} (r : Reader A) (q : Reader B) (s : List ℕ) (n : ℕ) → r s ≡ refused n → (r >> q) s ≡ refused n
 unfolding _>>_
-first-fault′ r q s n e = rw e
+first-fault r q s n e = rw e
 
 -- "mark, .., bytes missing": 1 where the mark is cut, 2 where it is another, however few bytes follow, 1 where the record is cut
-pub begin-short : (m n : ℕ) (s : List ℕ) → length s < 2 → begin m n s ≡ refused 1
-unfolding begin mark _>>_
-begin-short m n s h = simp (lt-ltb _ _ h)
+module _ (m n : ℕ) (s : List ℕ) where
+  pub begin-short : length s < 2 → begin m n s ≡ refused 1
+  unfolding begin mark _>>_
+  begin-short h = simp (lt-ltb _ _ h)
 
-pub begin-other : (m n : ℕ) (s : List ℕ) → 2 ≤ length s → (number (take 2 s) ≡ m → ⊥) → begin m n s ≡ refused 2
-unfolding begin mark _>>_
-begin-other m n s h f = simp (le-ltb _ _ h, ne-eqb _ _ f)
+  module _ (long : 2 ≤ length s) where
+    pub begin-other : (number (take 2 s) ≡ m → ⊥) → begin m n s ≡ refused 2
+    unfolding begin mark _>>_
+    begin-other f = simp (le-ltb _ _ long, ne-eqb _ _ f)
 
-pub begin-cut : (m n : ℕ) (t : List ℕ) → m < 65536 → length t < n → begin m n (bytes 2 m ++ t) ≡ refused 1
-unfolding begin present _>>_
-begin-cut m n t h l = rw (mark-yes m t h) (simp (lt-ltb _ _ l))
+    module _ (e : number (take 2 s) ≡ m) where
+      pub begin-cut : length (drop 2 s) < n → begin m n s ≡ refused 1
+      unfolding begin mark present _>>_
+      begin-cut l = simp (le-ltb _ _ long, eq-eqb _ _ e, lt-ltb _ _ l)
+
+      pub begin-whole : n ≤ length (drop 2 s) → begin m n s ≡ accepted tt (drop 2 s)
+      unfolding begin mark present _>>_
+      begin-whole l = simp (le-ltb _ _ long, eq-eqb _ _ e, le-ltb _ _ l)
 
 -- the 61st activity record: its mark alone gives 9, whatever follows it
 run-full : (k : ℕ) (before : List Activity) (s : List ℕ) → k ≡ 0 → stands activityMark s ≡ true → run k before s ≡ refused 9
@@ -77,16 +75,16 @@ unfolding year yearLeft yearRecords noneLeft
 year-short due s h = go (eqb (due .state .left) 0)
   where
     go : (b : Bool) → cond b noneLeft (yearRecords (due .state .year) (due .terms .start .0) (due .terms .beltstart .0)) s ≡ refused 1
-    go true = first-fault′ _ _ s 1 (begin-short YR 4 s h)
-    go false = first-fault′ _ _ s 1 (begin-short YR 4 s h)
+    go true = first-fault _ _ s 1 (begin-short YR 4 s h)
+    go false = first-fault _ _ s 1 (begin-short YR 4 s h)
 
 pub year-other : (due : Due) (s : List ℕ) → 2 ≤ length s → (number (take 2 s) ≡ YR → ⊥) → year due s ≡ refused 2
 unfolding year yearLeft yearRecords noneLeft
 year-other due s h f = go (eqb (due .state .left) 0)
   where
     go : (b : Bool) → cond b noneLeft (yearRecords (due .state .year) (due .terms .start .0) (due .terms .beltstart .0)) s ≡ refused 2
-    go true = first-fault′ _ _ s 2 (begin-other YR 4 s h f)
-    go false = first-fault′ _ _ s 2 (begin-other YR 4 s h f)
+    go true = first-fault _ _ s 2 (begin-other YR 4 s h f)
+    go false = first-fault _ _ s 2 (begin-other YR 4 s h f)
 
 -- ---- the ends: after EN any byte is 2; after a piece a lone byte is 1, more bytes are 2
 pub after-end : (b : ℕ) (t : List ℕ) → end (bytes 2 EN ++ (b ∷ t)) ≡ refused 2

@@ -11,7 +11,7 @@ use lib.ListN.{length, length-append}
 use Rattle.activity.specs.declared.Activity.{Activity}
 use Rattle.activity.specs.Activity.{ActivityInRange, ActivitiesInRange}
 use Rattle.wire.specs.Bytes.{Bytes, joined}
-use Rattle.dossier.specs.Records.{activityBytes}
+use Rattle.dossier.specs.Layouts.{activityBytes}
 use Rattle.dossier.specs.Reader.{refused, accepted, Reader, after, _>>=_, give, refuse, stands, upon}
 use Rattle.dossier.specs.JudgingRecords.{activityMark, activity}
 use Rattle.dossier.specs.Judging.{run, activities}
@@ -19,7 +19,7 @@ use Rattle.wire.proofs.BytesLaws.{bytes-after}
 use Rattle.dossier.proofs.ReaderLaws.{no, step, was}
 use Rattle.dossier.proofs.Exact.{Exact}
 use Rattle.dossier.proofs.ExactParts.{Any}
-use Rattle.dossier.proofs.ActivityKinds.{activity-exact, begins-activity}
+use Rattle.dossier.proofs.ActivityLaws.{activity-exact, begins-activity}
 
 -- the run without a count: where an activity mark stands, the 61st is 9, and another is read and the run goes on after it; elsewhere the run is over
 pub activities-are : (before : List Activity) (s : List ℕ)

@@ -10,8 +10,9 @@ use lib.Dec.{eqb}
 use lib.ListN.{length, drop, length-append, length-drop}
 use lib.Seq.{take-append-le, drop-append-le}
 use Rattle.wire.specs.Bytes.{numbers}
-use Rattle.dossier.specs.Reader.{Judged, refused, accepted, Reader, after, _>>=_, _>>_, give, refuse, mark, stands, upon, present, begin, field, fields, outside, within, equal, nothing}
+use Rattle.dossier.specs.Reader.{Judged, refused, accepted, Reader, after, _>>=_, _>>_, give, refuse, mark, stands, upon, present, field, fields, nothing}
 use Rattle.dossier.proofs.ReaderLaws.{present-yes}
+use Rattle.dossier.proofs.Walk.{Closed}
 
 -- the same judgement, and t is left over too
 abbrev pub andLeft : {A : Type 0} → List ℕ → Judged A → Judged A
@@ -49,12 +50,8 @@ bind {A} {B} {m} {n} {r} {k} x y = record {
     go l (refused c) h = tt
     go l (accepted a u) h = y a .leaves u l h
 
-pub seq : {A B : Type 0} {m n : ℕ} {r : Reader A} {q : Reader B} → Settles m r → Settles n q → Settles (m + n) (r >> q)
-unfolding _>>_ _>>=_
-seq x y = bind x (λ _. y)
-
 -- more bytes settle it too
-pub more : {A : Type 0} {m n : ℕ} {r : Reader A} → Settles m r → m ≤ n → Settles n r
+more : {A : Type 0} {m n : ℕ} {r : Reader A} → Settles m r → m ≤ n → Settles n r
 more x h = record { alike = λ s t l. x .alike s t (omega arith); leaves = λ s l k. x .leaves s l (omega arith) }
 
 -- a reader that does the same where there are m bytes
@@ -76,7 +73,7 @@ stands-alike kind s t h =
     let g : 2 ≤ length (s ++ t) = simp length-append (omega arith) in
     rw (le-ltb _ _ g, le-ltb _ _ h, take-append-le 2 s t h)
 
-pub choice : {A : Type 0} {m : ℕ} {r q : Reader A} (kind : ℕ → Bool) → Settles m r → Settles m q → 2 ≤ m → Settles m (upon kind r q)
+choice : {A : Type 0} {m : ℕ} {r q : Reader A} (kind : ℕ → Bool) → Settles m r → Settles m q → 2 ≤ m → Settles m (upon kind r q)
 unfolding upon
 choice kind x y h = record {
   alike = λ s t l. rw (stands-alike kind s t (omega arith)) (either (stands kind s) x y .alike s t l);
@@ -88,19 +85,11 @@ pub given : {A : Type 0} (a : A) → Settles 0 (give a)
 unfolding give
 given a = record { alike = λ s t h. refl; leaves = λ s l h. omega arith }
 
-pub refusal : {A : Type 0} (n : ℕ) → Settles 0 (refuse {A = A} n)
+refusal : {A : Type 0} (n : ℕ) → Settles 0 (refuse {A = A} n)
 unfolding refuse
 refusal n = record { alike = λ s t h. refl; leaves = λ s l h. tt }
 
-pub withins : (n low x high : ℕ) → Settles 0 (within n low x high)
-unfolding within refuse give
-withins n low x high = either (outside low x high) (refusal n) (given tt)
-
-pub equals : (n x y : ℕ) → Settles 0 (equal n x y)
-unfolding equal refuse give
-equals n x y = either (eqb x y) (given tt) (refusal n)
-
-pub a-field : (w : ℕ) → Settles w (field w)
+a-field : (w : ℕ) → Settles w (field w)
 unfolding field
 a-field w = record {
   alike = λ s t h. rw (take-append-le w s t h, drop-append-le w s t h);
@@ -115,7 +104,7 @@ numbers-alike (suc k) w s t h =
     let i = numbers-alike k w (drop w s) t (simp length-drop (omega arith)) in
     rw (take-append-le w s t g, drop-append-le w s t g, i)
 
-pub some-fields : (k w : ℕ) → Settles (k * w) (fields k w)
+some-fields : (k w : ℕ) → Settles (k * w) (fields k w)
 unfolding fields
 some-fields k w = record {
   alike = λ s t h. rw (numbers-alike k w s t h, drop-append-le (k * w) s t h);
@@ -123,23 +112,32 @@ some-fields k w = record {
 }
 
 -- a mark is a field of two bytes
-pub marks : (m : ℕ) → Settles 2 (mark m)
-unfolding mark field equal _>>=_
-marks m = instead (bind (a-field 2) (λ x. equals 2 x m)) (λ s h. rw (le-ltb _ _ h))
+marks : (m : ℕ) → Settles 2 (mark m)
+unfolding mark field give refuse _>>=_
+marks m = instead (bind (a-field 2) (λ x. either (eqb x m) (given tt) (refusal 2))) (λ s h. rw (le-ltb _ _ h))
 
--- where no bytes are missing, a record begins with its mark alone
-begin-marks : (m n : ℕ) (s : List ℕ) → 2 + n ≤ length s → begin m n s ≡ mark m s
-unfolding begin _>>_
-begin-marks m n s h = go (mark m s) (marks m .leaves s n h)
-  where
-    go : (j : Judged (Unit {0})) → Leaves n j → after j (λ _. present n) ≡ j
-    go (refused c) l = refl
-    go (accepted a u) l = present-yes n u l
-
-pub begins : {A : Type 0} {n k : ℕ} {r : Reader A} (m : ℕ) → Settles k r → n ≤ k → Settles (2 + k) (begin m n >> r)
+-- bytes present are left to the reader after
+presents : {A : Type 0} {n k : ℕ} {r : Reader A} → Settles k r → n ≤ k → Settles k (present n >> r)
 unfolding _>>_
-begins {n = n} m x g = instead (seq (marks m) x) (λ s h. rw (begin-marks m n s (omega arith)))
+presents {n = n} x g = instead x (λ s h. rw (present-yes n s (omega arith)))
 
-pub nothings : Settles 1 nothing
+nothings : Settles 1 nothing
 unfolding nothing refuse
 nothings = instead (more (refusal 2) (omega arith)) (λ s h. rw (lt-ltb 0 (length s) h))
+
+abbrev pub SettledBy : (A : Type 0) → ℕ → Reader A → Type 0
+SettledBy A m r = Settles m r
+
+pub settles : Closed SettledBy
+settles = record {
+  bind = λ x y. bind x y;
+  more = λ x h. more x h;
+  choice = λ kind x y h. choice kind x y h;
+  present = λ x h. presents x h;
+  give = λ a. given a;
+  refuse = λ n h. refusal n;
+  field = λ w. a-field w;
+  fields = λ k w. some-fields k w;
+  mark = λ m. marks m;
+  nothing = nothings;
+}

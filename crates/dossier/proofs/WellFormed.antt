@@ -7,7 +7,8 @@ use native.Mathlib.Omega.{arith}
 use Rattle.activity.specs.declared.Activity.{Activity}
 use Rattle.activity.specs.Activity.{ActivityInRange}
 use Rattle.figures.specs.Year.{Year}
-use Rattle.dossier.specs.Records.{Opening, OpeningInRange, openingBytes, Due, DueInRange, activityBytes, YearInRange, yearBytes, Dossier, DossierInRange, dossierBytes}
+use Rattle.dossier.specs.Layouts.{activityBytes}
+use Rattle.dossier.specs.Records.{Opening, OpeningInRange, openingBytes, Due, DueInRange, YearInRange, yearBytes, Dossier, DossierInRange, dossierBytes}
 use Rattle.dossier.specs.Reader.{Reader}
 use Rattle.dossier.specs.JudgingRecords.{activityMark, activity}
 use Rattle.dossier.specs.Judging.{dossier, openingPiece, yearPiece}
@@ -15,7 +16,7 @@ use Rattle.dossier.specs.Claims.{AcceptedExactly}
 use Rattle.dossier.proofs.ReaderLaws.{was, stands-nothing}
 use Rattle.dossier.proofs.Exact.{Exact}
 use Rattle.dossier.proofs.ExactParts.{Any}
-use Rattle.dossier.proofs.ActivityKinds.{activity-exact}
+use Rattle.dossier.proofs.ActivityLaws.{activity-exact}
 use Rattle.dossier.proofs.DossierLaws.{dossier-exact, openingPiece-exact, yearPiece-exact}
 
 -- a reader that is exact for values in range with nothing after them

@@ -1,19 +1,20 @@
 -- Document 01, "Causes and numbers": each record judged by itself: "mark, 9, bytes missing, fields" (9 is no matter of one record).
 -- Assumes nothing.
-use Prim.Native.Nat.{ℕ, zero, suc, _*_}
-use mathlib.Core.Bool.{Bool, true, cond}
+use Prim.Native.Nat.{ℕ, zero, suc}
+use mathlib.Core.Bool.{Bool, true, false, cond}
 use mathlib.Core.Option.{Option, none, some}
-use mathlib.Core.List.{List}
+use mathlib.Core.List.{List, [], _∷_}
 use lib.Dec.{eqb}
 use Rattle.arithmetic.specs.Sum.{sum}
 use Rattle.classes.specs.Classes.{classes}
 use Rattle.classes.specs.Matrix.{entry, million}
 use Rattle.activity.specs.declared.Activity.{Activity}
-use Rattle.activity.specs.declared.Activity.the-variants.{Fuel, Vehicles, Nitrogen, Lime}
+use Rattle.activity.specs.Activity.{Range, ranges}
 use Rattle.wire.specs.Bytes.{total}
-use Rattle.dossier.specs.Marks.{HD, MP, FU, VE, NI, LI}
+use Rattle.dossier.specs.Marks.{HD, MP}
+use Rattle.dossier.specs.Layouts.{Made, Layout, layouts}
 use Rattle.dossier.specs.Records.{Head}
-use Rattle.dossier.specs.Reader.{Reader, _>>=_, _>>_, give, is, upon, begin, field, fields, within, equal}
+use Rattle.dossier.specs.Reader.{Reader, _>>=_, _>>_, give, refuse, is, present, begin, field, fields, within, equal}
 
 -- "HD field out of range": 3
 unfoldable pub head : Reader Head
@@ -61,56 +62,46 @@ conversions m settledTotal = do
   equal 7 (total xs) settledTotal
   give xs
 
--- "activity field, or VE product, out of range": 8
-unfoldable pub fuel : Reader Activity
-fuel = do
-  begin FU 9
-  kind ← field 1
-  grams ← field 8
-  within 8 1 kind 3
-  within 8 0 grams 1000000000000
-  give (Fuel kind grams)
+-- "activity field, or VE product, out of range": 8; a record whose numbers are all in range
+unfoldable pub inRange : List Range → Activity → Reader Activity
+inRange [] a = give a
+inRange (r ∷ rest) a = do
+  within 8 (r .low) (r .number) (r .high)
+  inRange rest a
 
-unfoldable pub vehicles : Reader Activity
-vehicles = do
-  begin VE 13
-  kind ← field 1
-  count ← field 4
-  average ← field 4
-  rate ← field 4
-  within 8 1 kind 3
-  within 8 0 count 1000
-  within 8 0 average 1000000
-  within 8 0 rate 100000
-  within 8 0 (count * average * rate) 1000000000000
-  give (Vehicles kind count average rate)
+-- the fields of these widths, and the record that their numbers make
+abbrev pub madeFrom : (widths : List ℕ) → Made widths → Reader Activity
+madeFrom [] a = inRange (ranges a) a
+madeFrom (w ∷ widths) made = do
+  x ← field w
+  madeFrom widths (made x)
 
-unfoldable pub nitrogen : Reader Activity
-nitrogen = do
-  begin NI 12
-  source ← field 1
-  crop ← field 1
-  grams ← field 8
-  content ← field 2
-  within 8 1 source 3
-  within 8 1 crop 2
-  within 8 0 grams 10000000000
-  within 8 0 content 10000
-  give (Nitrogen source crop grams content)
+-- a record of one row after its mark: "bytes missing, fields"
+unfoldable pub fieldsOf : Layout → Reader Activity
+fieldsOf l = do
+  present (total (l .widths))
+  madeFrom (l .widths) (l .made)
 
-unfoldable pub lime : Reader Activity
-lime = do
-  begin LI 9
-  material ← field 1
-  grams ← field 8
-  within 8 1 material 3
-  within 8 0 grams 1000000000000
-  give (Lime material grams)
+-- whether m is the mark of one of these rows
+abbrev pub markOf : List Layout → ℕ → Bool
+markOf [] m = false
+markOf (l ∷ rest) m = cond (is (l .mark) m) true (markOf rest m)
 
--- the mark of an activity record
+-- after the mark m, a record of the row that has it
+abbrev pub rowUnder : List Layout → ℕ → Reader Activity
+rowUnder [] m = refuse 2
+rowUnder (l ∷ rest) m = cond (is (l .mark) m) (fieldsOf l) (rowUnder rest m)
+
+-- the mark of an activity record, and an activity record after its mark
 unfoldable pub activityMark : ℕ → Bool
-activityMark m = cond (is FU m) true (cond (is VE m) true (cond (is NI m) true (is LI m)))
+activityMark m = markOf layouts m
 
--- the activity record whose mark stands here
+unfoldable pub activityUnder : ℕ → Reader Activity
+activityUnder m = rowUnder layouts m
+
+-- an activity record: 1 where its mark is cut, 2 where that is none of these
 unfoldable pub activity : Reader Activity
-activity = upon (is FU) fuel (upon (is VE) vehicles (upon (is NI) nitrogen lime))
+activity = do
+  present 2
+  m ← field 2
+  activityUnder m

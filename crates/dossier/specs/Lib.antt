@@ -1,4 +1,5 @@
 pub mod Marks
+pub mod Layouts
 pub mod Records
 pub mod Reader
 pub mod JudgingRecords

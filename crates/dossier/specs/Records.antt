@@ -1,5 +1,5 @@
 -- Document 01, "The dossier": each record's fields, their ranges, and its bytes. What YR, CP, CD and the activity records bring is a Year of the
--- crate figures; an activity record is an Activity of the crate activity, which has its ranges.
+-- crate figures; an activity record is an Activity of the crate activity, which has its ranges; its bytes are in Layouts.
 -- Assumes nothing.
 use Prim.Native.Nat.{ℕ, _≤_, _<_}
 use mathlib.Core.Path.{_≡_}
@@ -12,15 +12,14 @@ use Rattle.classes.specs.Classes.{carbonStocks}
 use Rattle.classes.specs.Matrix.{RowsSum, optionOneMatrix}
 use Rattle.classes.specs.Calendar.{daysInYear}
 use Rattle.projection.specs.Projection.{openedRegion}
-use Rattle.activity.specs.declared.Activity.{Activity}
-use Rattle.activity.specs.declared.Activity.the-variants.{Fuel, Vehicles, Nitrogen, Lime}
 use Rattle.activity.specs.Activity.{Within, ActivitiesInRange}
 use Rattle.figures.specs.declared.Terms.{Terms}
 use Rattle.figures.specs.declared.State.{State}
 use Rattle.figures.specs.Year.{Year}
 use Rattle.figures.specs.Reckoning.{afterYear}
 use Rattle.wire.specs.Bytes.{bytes, bytesOfEach, joined, total}
-use Rattle.dossier.specs.Marks.{HD, PA, DA, MP, YR, CP, CD, FU, VE, NI, LI, EN}
+use Rattle.dossier.specs.Marks.{HD, PA, DA, MP, YR, CP, CD, EN}
+use Rattle.dossier.specs.Layouts.{activityBytes}
 
 -- "HD: option 8 bits (1 or 2), first year 16 bits (2000 to 2200), years n 8 bits (1 to 20)"
 pub record Head : Type 0 where
@@ -144,13 +143,6 @@ pub record ConversionsInRange (sum : ℕ) (conversions : List ℕ) : Type 0 wher
 
 unfoldable pub conversionsBytes : ℕ → List ℕ → List ℕ
 conversionsBytes m conversions = joined (bytes 2 m ∷ bytesOfEach 8 conversions ∷ [])
-
--- "FU kind 8, grams 64; VE kind 8, then three of 32; NI source 8, crop 8, grams 64, content 16; LI material 8, grams 64"
-unfoldable pub activityBytes : Activity → List ℕ
-activityBytes (Fuel kind grams) = joined (bytes 2 FU ∷ bytes 1 kind ∷ bytes 8 grams ∷ [])
-activityBytes (Vehicles kind count average rate) = joined (bytes 2 VE ∷ bytes 1 kind ∷ bytes 4 count ∷ bytes 4 average ∷ bytes 4 rate ∷ [])
-activityBytes (Nitrogen source crop grams content) = joined (bytes 2 NI ∷ bytes 1 source ∷ bytes 1 crop ∷ bytes 8 grams ∷ bytes 2 content ∷ [])
-activityBytes (Lime material grams) = joined (bytes 2 LI ∷ bytes 1 material ∷ bytes 8 grams ∷ [])
 
 -- "YR with year and d, 16 bits each (from the first year on without a gap; d from 1 to D); CP and CD, ..; then 0 to 60 activity records", for what is due
 pub record YearInRange (due : Due) (y : Year) : Type 0 where

@@ -11,9 +11,9 @@ use Rattle.figures.specs.Year.{Year}
 use Rattle.dossier.specs.Records.{Opening, Dossier, settled}
 use Rattle.dossier.specs.Reader.{Judged, refused, accepted, after, _>>=_, give}
 use Rattle.dossier.specs.Judging.{dossier, opening, years, callNumber}
-use Rattle.dossier.proofs.ReaderLaws.{no, was}
+use Rattle.dossier.proofs.ReaderLaws.{no, bind-no, was}
 use Rattle.dossier.proofs.Causes.{dossier-causes}
-use Rattle.dossier.proofs.Refusals.{first-fault, buffer-last, buffer-enough}
+use Rattle.dossier.proofs.Refusals.{buffer-last, buffer-enough}
 use Rattle.dossier.proofs.WellFormed.{dossier-accepted}
 use Rattle.opening.specs.declared.Opened.{Opened}
 use Rattle.opening.specs.declared.OpeningAnswer.{OpeningAnswer}
@@ -59,7 +59,7 @@ module _ (s : List ℕ) (b : Bytes s) (r : Opened) (says : openedSays s r ≡ op
   unfolding dossier
   never-refused n e =
       let p : refused n ≡ opening s = rw e at says in
-      let q = first-fault opening _ s n (sym p) in
+      let q = sym (bind-no opening _ s n p) in
       let c = dossier-causes s n q in
       let y = buffer-last s 1312 n q in
       absurd (omega arith)

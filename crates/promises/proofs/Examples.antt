@@ -16,9 +16,10 @@ use Rattle.figures.specs.Reckoning.{regionReference, tableEmissions, yearFigure
 use Rattle.assurance.specs.Unrounded.{openedᶠ, flowᶠ, carbonᶠ, referenceᶠ, emissionsᶠ, activityᶠ, displacedᶠ, reductionᶠ, creditedᶠ, afterYearᶠ, afterYearsᶠ}
 use Rattle.wire.specs.Bytes.{number, bytes, numbers, bytesOfEach, joined, total, fieldAt}
 use Rattle.wire.specs.Signed.{twosComplement, figureBytes, figuresBytes, written, signed, figureAt}
-use Rattle.dossier.specs.Records.{headBytes, areasBytes, optionBytes, openingBytes, termsOf, stateOf, settled, next, conversionsBytes, activityBytes, yearBytes, dossierBytes}
+use Rattle.dossier.specs.Records.{headBytes, areasBytes, optionBytes, openingBytes, termsOf, stateOf, settled, next, conversionsBytes, yearBytes, dossierBytes}
+use Rattle.dossier.specs.Layouts.{activityBytes}
 use Rattle.dossier.specs.Reader.{_>>=_, _>>_, give, mark, stands, upon, present, begin, field, fields, outside, within, equal, nothing}
-use Rattle.dossier.specs.JudgingRecords.{head, areas, matrixUnder, conversions, fuel, activityMark, activity}
+use Rattle.dossier.specs.JudgingRecords.{head, areas, matrixUnder, conversions, inRange, fieldsOf, activityMark, activityUnder, activity}
 use Rattle.dossier.specs.Judging.{opening, run, activities, yearRecords, yearLeft, year, end, years, dossier}
 use Rattle.reckoning.specs.Step.{yearAdvanced}
 use Rattle.report.specs.Report.{eights, reported}
@@ -27,7 +28,7 @@ use Rattle.reckoner.specs.Calls.{closedBuffer, dossierCall, reckonBuffer}
 use Rattle.promises.specs.Examples.{onlyE, caseA, bufferA, threeUnits, Example, examples}
 
 pub examples-hold : map (λ (e : Example). e .given) examples ≡ map (λ (e : Example). e .stated) examples
-unfolding examples onlyE caseA bufferA threeUnits figureAt signed fieldAt number reckonBuffer dossierCall closedBuffer written figuresBytes figureBytes twosComplement bytes report reported eights ledgerOf givenYears givenYear openedLedger newLedger dueOf yearAdvanced afterYear afterFigures yearFigures regionReference tableEmissions referenceLevel monitoredCarbon countedFactor stockChangeEmissions displacedEmissions reductionOf creditedOf tonnesOf figuresOf projectedCarbon nextArea nextAreas lostArea openedRegion projectedRegion projectedYear numerator denominator activityGrams activityEmissions carbonStocks deforestationProbabilities emissionFactor optionOne optionOneMatrix daysInYear sum listed ceilDiv floorDiv numbers bytesOfEach joined total headBytes areasBytes optionBytes openingBytes termsOf stateOf settled next conversionsBytes activityBytes yearBytes dossierBytes _>>=_ _>>_ give mark stands upon present begin field fields outside within equal nothing head areas matrixUnder conversions fuel activityMark activity opening run activities yearRecords yearLeft year end years dossier
+unfolding examples onlyE caseA bufferA threeUnits figureAt signed fieldAt number reckonBuffer dossierCall closedBuffer written figuresBytes figureBytes twosComplement bytes report reported eights ledgerOf givenYears givenYear openedLedger newLedger dueOf yearAdvanced afterYear afterFigures yearFigures regionReference tableEmissions referenceLevel monitoredCarbon countedFactor stockChangeEmissions displacedEmissions reductionOf creditedOf tonnesOf figuresOf projectedCarbon nextArea nextAreas lostArea openedRegion projectedRegion projectedYear numerator denominator activityGrams activityEmissions carbonStocks deforestationProbabilities emissionFactor optionOne optionOneMatrix daysInYear sum listed ceilDiv floorDiv numbers bytesOfEach joined total headBytes areasBytes optionBytes openingBytes termsOf stateOf settled next conversionsBytes activityBytes yearBytes dossierBytes _>>=_ _>>_ give mark stands upon present begin field fields outside within equal nothing head areas matrixUnder conversions inRange fieldsOf activityMark activityUnder activity opening run activities yearRecords yearLeft year end years dossier
 examples-hold = refl
 
 -- the unrounded total of case A is 1,196,360,888 ÷ 3

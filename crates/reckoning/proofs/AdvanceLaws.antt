@@ -39,7 +39,7 @@ days-asked days year yeardays h e = rw e (calendar-days days year h)
 module _ (matrix factors : List ℕ) (state : State) (days : ℕ) (p b : CarbonUnits) (a : Grams) (r r′ : Projected) (yeardays : ℕ) (figures : Figures)
     (e : r ≡ projectedYear (entry factors) matrix (state .project)) (e′ : r′ ≡ projectedYear (entry factors) matrix (state .belt)) (ed : yeardays ≡ daysInYear (state .year))
     (ef : figures ≡ carbonFigures (record { projected = r .carbon; monitored = p }) (record { projected = r′ .carbon; monitored = b }) (a .0) days yeardays) where
-  figures-are : figures ≡ summaryFigures (entry factors) matrix (record { year = state .year; days = days; project = p; belt = b; activity = a }) (state .project) (state .belt)
+  figures-are : figures ≡ summaryFigures (entry factors) matrix (record { days = days; project = p; belt = b; activity = a }) state
   unfolding summaryFigures projectedYear
   figures-are = ef ∙ rw (e, e′, ed)
 
@@ -51,7 +51,7 @@ module _ (matrix factors : List ℕ) (state : State) (days : ℕ) (p b : CarbonU
 
   pub whole : (grown : Grams) → grown .0 ≡ state .total .0 +ℤ figures .credited .0
       → _≡_ {A = Advanced} (record { state = record { year = state .year + 1; left = state .left - 1; project = r .region; belt = r′ .region; total = grown }; figures = figures })
-      (summaryAdvanced (entry factors) matrix (record { year = state .year; days = days; project = p; belt = b; activity = a }) state)
+      (summaryAdvanced (entry factors) matrix (record { days = days; project = p; belt = b; activity = a }) state)
   unfolding summaryAdvanced afterFigures projectedYear
   whole grown g =
       let eg : grown ≡ record { 0 = state .total .0 +ℤ figures .credited .0 } = ap {B = Grams} (λ (z : ℤ). record { 0 = z }) g in

@@ -1,6 +1,6 @@
 -- A step over the bytes: what the answers of its calls said, and the step in terms of the year that was read.
 -- Assumes nothing.
-use mathlib.Core.Path.{_≡_, _∙_, ap}
+use mathlib.Core.Path.{_≡_, refl, _∙_, ap}
 use mathlib.Core.List.{List}
 use Prim.Native.Nat.{ℕ, _≤_, _<_}
 use lib.ListN.{length, drop}
@@ -21,7 +21,8 @@ use Rattle.figures.specs.Ranges.{SmallCarbon, SmallGrams}
 use Rattle.figures.specs.Reckoning.{regionReference, tableEmissions, yearFigures, afterYear}
 use Rattle.dossier.specs.Reader.{Judged, refused, accepted, after, _>>=_, give}
 use Rattle.dossier.specs.Judging.{yearLeft, year}
-use Rattle.cursor.proofs.AtLaws.{bind-no, bind-yes, bind-bind, after-same}
+use Rattle.dossier.proofs.ReaderLaws.{bind-no, bind-yes}
+use Rattle.dossier.proofs.YearLaws.{year-is-due}
 use Rattle.years.specs.declared.YearAnswer.{YearAnswer}
 use Rattle.years.specs.Answers.{Summary, summary, summarizedYear, yearSays, tablesInside, yearFits}
 use Rattle.reckoning.specs.declared.Advanced.{Advanced}
@@ -32,7 +33,7 @@ year-refused s r n j e q = rw e at q
 
 -- a year that was read, of the year that is due
 pub record WasRead (s : List ℕ) (due left days : ℕ) (p b : CarbonUnits) (a : Grams) (next : ℕ) (j : Judged Summary) : Type 0 where
-  pub says : accepted (record { year = due; days = days; project = p; belt = b; activity = a }) (drop next s) ≡ j
+  pub says : accepted (record { days = days; project = p; belt = b; activity = a }) (drop next s) ≡ j
   pub inside : next ≤ length s
   pub project : SmallCarbon (p .0)
   pub belt : SmallCarbon (b .0)
@@ -40,13 +41,12 @@ pub record WasRead (s : List ℕ) (due left days : ℕ) (p b : CarbonUnits) (a :
   pub some : 1 ≤ left
   pub allowed : days ≤ daysInYear due
 
-pub year-was-read : (s : List ℕ) (r : YearAnswer) (due left y days : ℕ) (p b : CarbonUnits) (a : Grams) (next : ℕ) (j : Judged Summary) → r ≡ YearAnswer.Read y days p b a next → yearSays s r ≡ j → tablesInside s r → yearFits due left r
+pub year-was-read : (s : List ℕ) (r : YearAnswer) (due left days : ℕ) (p b : CarbonUnits) (a : Grams) (next : ℕ) (j : Judged Summary) → r ≡ YearAnswer.Read days p b a next → yearSays s r ≡ j → tablesInside s r → yearFits due left r
     → WasRead s due left days p b a next j
-year-was-read s r due left y days p b a next j e q i f =
+year-was-read s r due left days p b a next j e q i f =
     let k : (next ≤ length s) × SmallCarbon (p .0) × SmallCarbon (b .0) × SmallGrams (a .0) = rw e at i in
-    let g : (1 ≤ left) × (y ≡ due) × (days ≤ daysInYear y) = rw e at f in
-    let v : accepted (record { year = y; days = days; project = p; belt = b; activity = a }) (drop next s) ≡ j = rw e at q in
-    record { says = rw (g .1) at v; inside = k .0; project = k .1; belt = k .2; activity = k .3; some = g .0; allowed = rw (g .1) at (g .2) }
+    let g : (1 ≤ left) × (days ≤ daysInYear due) = rw e at f in
+    record { says = rw e at q; inside = k .0; project = k .1; belt = k .2; activity = k .3; some = g .0; allowed = g .1 }
 
 module _ (factor counted : ℕ → ℕ → ℕ) (matrix : List ℕ) (start beltstart : ℕ) (state : State) (u : List ℕ) where
   pub stepped-no : (n : ℕ) → refused n ≡ summarizedYear counted (state .year) (state .left) start beltstart u → refused n ≡ steppedYear factor counted matrix start beltstart state u
@@ -73,27 +73,28 @@ module _ (t : Terms) (factors counted : List ℕ) (ef : factors ≡ tableOf (emi
   counted-is : (i j : ℕ) → i < classes → j < classes → entry counted i j ≡ countedFactor (t .option) (emissionFactor (t .stocks)) i j
   counted-is i j hi hj = rw ec (entry-tableOf (countedFactor (t .option) (emissionFactor (t .stocks))) i j hi hj)
 
-  figures-same : (y : Year) (project belt : Region) → summaryFigures (entry factors) (t .matrix) (summary (entry counted) y) project belt ≡ yearFigures t y project belt
-  unfolding summaryFigures yearFigures regionReference tableEmissions
-  figures-same y project belt =
-      rw (
-        carbon-same (entry factors) (emissionFactor (t .stocks)) project (t .matrix) factor-is,
-        carbon-same (entry factors) (emissionFactor (t .stocks)) belt (t .matrix) factor-is,
-        monitored-same (entry counted) (countedFactor (t .option) (emissionFactor (t .stocks))) (y .conversions) counted-is,
-        monitored-same (entry counted) (countedFactor (t .option) (emissionFactor (t .stocks))) (y .beltConversions) counted-is,
-      )
+  module _ (y : Year) (state : State) (due : y .year ≡ state .year) where
+    figures-same : summaryFigures (entry factors) (t .matrix) (summary (entry counted) y) state ≡ yearFigures t y (state .project) (state .belt)
+    unfolding summaryFigures yearFigures regionReference tableEmissions
+    figures-same =
+        rw (
+          carbon-same (entry factors) (emissionFactor (t .stocks)) (state .project) (t .matrix) factor-is,
+          carbon-same (entry factors) (emissionFactor (t .stocks)) (state .belt) (t .matrix) factor-is,
+          monitored-same (entry counted) (countedFactor (t .option) (emissionFactor (t .stocks))) (y .conversions) counted-is,
+          monitored-same (entry counted) (countedFactor (t .option) (emissionFactor (t .stocks))) (y .beltConversions) counted-is,
+          due,
+        )
 
-  advanced-same : (y : Year) (state : State) → summaryAdvanced (entry factors) (t .matrix) (summary (entry counted) y) state ≡ yearAdvanced t y state
-  unfolding summaryAdvanced yearAdvanced afterYear
-  advanced-same y state = rw (figures-same y (state .project) (state .belt))
+    advanced-same : summaryAdvanced (entry factors) (t .matrix) (summary (entry counted) y) state ≡ yearAdvanced t y state
+    unfolding summaryAdvanced yearAdvanced afterYear
+    advanced-same = rw figures-same
 
   pub step-is : (state : State) (u : List ℕ)
       → steppedYear (entry factors) (entry counted) (t .matrix) (t .start .0) (t .beltstart .0) state u ≡ after (year (record { terms = t; state = state }) u) (λ y. give (yearAdvanced t y state))
-  unfolding steppedYear summarizedYear year give _>>=_
-  step-is state u = bind-bind read _ _ ∙ after-same read _ _ (λ y v. last y v)
+  unfolding steppedYear summarizedYear give _>>=_
+  step-is state u = unfold year in go (year (record { terms = t; state = state }) u) refl
     where
-      read : Judged Year
-      read = yearLeft (state .year) (state .left) (t .start .0) (t .beltstart .0) u
-
-      last : (y : Year) (v : List ℕ) → after (give (summary (entry counted) y) v) (λ m. give (summaryAdvanced (entry factors) (t .matrix) m state)) ≡ give (yearAdvanced t y state) v
-      last y v = rw (advanced-same y state)
+      go : (j : Judged Year) → year (record { terms = t; state = state }) u ≡ j
+          → after (after j (λ y. give (summary (entry counted) y))) (λ m. give (summaryAdvanced (entry factors) (t .matrix) m state)) ≡ after j (λ y. give (yearAdvanced t y state))
+      go (refused n) e = refl
+      go (accepted y v) e = unfold give in rw (advanced-same y state (year-is-due (record { terms = t; state = state }) u e))

@@ -6,7 +6,6 @@ use mathlib.Core.List.{List}
 use lib.Signed.{mag}
 use lib.ListN.{length, drop}
 use Rattle.classes.specs.Calendar.{daysInYear}
-use Rattle.projection.specs.declared.Region.{Region}
 use Rattle.projection.specs.Projection.{projectedCarbon, SmallRegion}
 use Rattle.figures.specs.declared.Figures.{Figures}
 use Rattle.figures.specs.declared.Terms.{Terms}
@@ -25,15 +24,15 @@ unfoldable pub yearAdvanced : Terms → Year → State → Advanced
 yearAdvanced t y state = record { state = afterYear t y state; figures = yearFigures t y (state .project) (state .belt) }
 
 -- ---- the same from a year's summary, by tables of factors
-unfoldable pub summaryFigures : (ℕ → ℕ → ℕ) → List ℕ → Summary → (project belt : Region) → Figures
-summaryFigures factor matrix m project belt =
-    carbonFigures (record { projected = record { 0 = projectedCarbon factor (project .areas) matrix }; monitored = m .project })
-    (record { projected = record { 0 = projectedCarbon factor (belt .areas) matrix }; monitored = m .belt }) (m .activity .0) (m .days) (daysInYear (m .year))
+unfoldable pub summaryFigures : (ℕ → ℕ → ℕ) → List ℕ → Summary → State → Figures
+summaryFigures factor matrix m state =
+    carbonFigures (record { projected = record { 0 = projectedCarbon factor (state .project .areas) matrix }; monitored = m .project })
+    (record { projected = record { 0 = projectedCarbon factor (state .belt .areas) matrix }; monitored = m .belt }) (m .activity .0) (m .days) (daysInYear (state .year))
 
 unfoldable pub summaryAdvanced : (ℕ → ℕ → ℕ) → List ℕ → Summary → State → Advanced
 summaryAdvanced factor matrix m state = record {
-  state = afterFigures matrix (summaryFigures factor matrix m (state .project) (state .belt)) state;
-  figures = summaryFigures factor matrix m (state .project) (state .belt);
+  state = afterFigures matrix (summaryFigures factor matrix m state) state;
+  figures = summaryFigures factor matrix m state;
 }
 
 -- the year that is due at the bytes' start, reckoned

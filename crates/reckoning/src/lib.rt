@@ -46,7 +46,7 @@ fn advance(
     requires { ⌜ RowsWithin (now matrix) ⌝ }
     requires { ⌜ FactorsFit (now factors) ⌝ }
     requires { ⌜ (SmallCarbon (project .0)) × (SmallCarbon (belt .0)) × (SmallGrams (activity .0)) × (1 ≤ state .left) × (days ≤ daysInYear (state .year)) ⌝ }
-    ensures { λ r. ⌜ r ≡ summaryAdvanced (entry (now (factors .entry))) (now (matrix .entry)) (record { year = state .year; days = days; project = project; belt = belt; activity = activity }) state ⌝ }
+    ensures { λ r. ⌜ r ≡ summaryAdvanced (entry (now (factors .entry))) (now (matrix .entry)) (record { days = days; project = project; belt = belt; activity = activity }) state ⌝ }
 {
     let region = state.project;
     let after = region.projected(matrix, factors);
@@ -109,7 +109,6 @@ pub fn step(
             },
         },
         YearAnswer::Read {
-            year: _,
             days,
             project,
             belt: belt_carbon,

@@ -3,10 +3,11 @@
 use mathlib.Core.Path.{_≡_, _∙_, ap, sym}
 use mathlib.Core.Bool.{Bool, true, false, cond}
 use mathlib.Core.List.{List, []}
-use Prim.Native.Nat.{ℕ, _+_, _≤_}
+use Prim.Native.Nat.{ℕ, _+_, _-_, _≤_}
 use native.Mathlib.Omega.{arith}
 use lib.Dec.{eqb}
-use lib.ListN.{length, drop}
+use lib.ListN.{length, take, drop, length-drop}
+use lib.Seq.{drop-drop, take-all}
 use lib.Signed.{mag}
 use borrow.Author.Tests.{eq-eqb, ne-eqb}
 use Rattle.classes.specs.declared.CarbonUnits.{CarbonUnits}
@@ -19,10 +20,10 @@ use Rattle.dossier.specs.Reader.{Judged, refused, accepted, numberOf, Reader, a
 use Rattle.dossier.specs.JudgingRecords.{conversions}
 use Rattle.dossier.specs.Judging.{activities, noneLeft, yearRecords, yearLeft}
 use Rattle.cursor.specs.Answers.{begunSays}
-use Rattle.cursor.proofs.AtLaws.{begun-no, begun-yes, reading, bind-no, bind-yes, bind-bind, after-same}
-use Rattle.dossier.proofs.ReaderLaws.{step, was}
+use Rattle.cursor.proofs.AtLaws.{begun-no, begun-yes, reading}
+use Rattle.dossier.proofs.ReaderLaws.{step, was, bind-no, bind-yes, bind-bind, after-same}
 use Rattle.activities.specs.declared.RunAnswer.{RunAnswer}
-use Rattle.activities.specs.Answers.{Summed, summedActivities, runSays, runInside}
+use Rattle.activities.specs.Answers.{summedActivities, runSays, runInside}
 use Rattle.figures.specs.Ranges.{SmallCarbon, SmallGrams}
 use Rattle.years.proofs.EndLaws.{none-left-is}
 use Rattle.years.specs.declared.TableAnswer.{TableAnswer}
@@ -30,31 +31,29 @@ use Rattle.years.specs.declared.YearAnswer.{YearAnswer}
 use Rattle.years.specs.Answers.{monitoredTable, tableSays, tableInside, Summary, summary, summarizedYear, summarizedRecords, summarizedTables, yearSays, recordsInside, tablesInside, yearFits}
 
 -- ---- from CP on
-module _ (factor : ℕ → ℕ → ℕ) (calendarYear days projectTotal beltTotal : ℕ) (u : List ℕ) where
-  pub project-no : (n : ℕ) → refused n ≡ monitoredTable factor CP projectTotal u → refused n ≡ summarizedTables factor calendarYear days projectTotal beltTotal u
+module _ (factor : ℕ → ℕ → ℕ) (days projectTotal beltTotal : ℕ) (u : List ℕ) where
+  pub project-no : (n : ℕ) → refused n ≡ monitoredTable factor CP projectTotal u → refused n ≡ summarizedTables factor days projectTotal beltTotal u
   unfolding summarizedTables
   project-no n e = bind-no (monitoredTable factor CP projectTotal) _ u n e
 
   module _ (p : CarbonUnits) (v : List ℕ) (e : accepted p v ≡ monitoredTable factor CP projectTotal u) where
-    pub belt-no : (n : ℕ) → refused n ≡ monitoredTable factor CD beltTotal v → refused n ≡ summarizedTables factor calendarYear days projectTotal beltTotal u
+    pub belt-no : (n : ℕ) → refused n ≡ monitoredTable factor CD beltTotal v → refused n ≡ summarizedTables factor days projectTotal beltTotal u
     unfolding summarizedTables
     belt-no n f = bind-no (monitoredTable factor CD beltTotal) _ v n f ∙ bind-yes (monitoredTable factor CP projectTotal) _ u p v e
 
-    pub belt-yes : (b : CarbonUnits) (w : List ℕ) → accepted b w ≡ monitoredTable factor CD beltTotal v
-        → summarizedRecords calendarYear days p b w ≡ summarizedTables factor calendarYear days projectTotal beltTotal u
+    pub belt-yes : (b : CarbonUnits) (w : List ℕ) → accepted b w ≡ monitoredTable factor CD beltTotal v → summarizedRecords days p b w ≡ summarizedTables factor days projectTotal beltTotal u
     unfolding summarizedTables
     belt-yes b w f = bind-yes (monitoredTable factor CD beltTotal) _ v b w f ∙ bind-yes (monitoredTable factor CP projectTotal) _ u p v e
 
 -- ---- from the activity records on
-module _ (calendarYear days : ℕ) (p b : CarbonUnits) (w : List ℕ) where
-  pub run-no : (n : ℕ) → refused n ≡ summedActivities w → refused n ≡ summarizedRecords calendarYear days p b w
+module _ (days : ℕ) (p b : CarbonUnits) (w : List ℕ) where
+  pub run-no : (n : ℕ) → refused n ≡ summedActivities w → refused n ≡ summarizedRecords days p b w
   unfolding summarizedRecords
   run-no n g = bind-no summedActivities _ w n g
 
-  pub run-yes : (r : Summed) (x : List ℕ) → accepted r x ≡ summedActivities w
-      → accepted (record { year = calendarYear; days = days; project = p; belt = b; activity = r .grams }) x ≡ summarizedRecords calendarYear days p b w
+  pub run-yes : (grams : Grams) (x : List ℕ) → accepted grams x ≡ summedActivities w → accepted (record { days = days; project = p; belt = b; activity = grams }) x ≡ summarizedRecords days p b w
   unfolding summarizedRecords give
-  run-yes r x g = bind-yes summedActivities _ w r x g
+  run-yes grams x g = bind-yes summedActivities _ w grams x g
 
 -- the tables and records of a year, and the same summarized
 unfoldable tables : (calendarYear days projectTotal beltTotal : ℕ) → Reader Year
@@ -66,7 +65,7 @@ tables calendarYear days projectTotal beltTotal = do
 
 tables-summarized : (factor : ℕ → ℕ → ℕ) (calendarYear days projectTotal beltTotal : ℕ) (u : List ℕ)
     → after (tables calendarYear days projectTotal beltTotal u) (λ y. give (summary factor y))
-    ≡ summarizedTables factor calendarYear days projectTotal beltTotal u
+    ≡ summarizedTables factor days projectTotal beltTotal u
 unfolding tables summarizedTables summarizedRecords monitoredTable summedActivities give _>>=_
 tables-summarized factor calendarYear days projectTotal beltTotal u =
     bind-bind (conversions CP projectTotal u) _ _
@@ -100,7 +99,7 @@ module _ (factor : ℕ → ℕ → ℕ) (due left start beltstart : ℕ) (s : Li
         unfolding summarizedYear
         days-wrong f = bind-no (yearLeft due left start beltstart) _ (drop at s) 6 (rw (year-at, eq-eqb y due e, ← ex, ← eo, f))
 
-        pub days-right : out ≡ false → summarizedTables factor y d start beltstart (drop (at + 6) s) ≡ summarizedYear factor due left start beltstart (drop at s)
+        pub days-right : out ≡ false → summarizedTables factor d start beltstart (drop (at + 6) s) ≡ summarizedYear factor due left start beltstart (drop at s)
         unfolding summarizedYear _>>=_
         days-right f = sym (rw (year-at, eq-eqb y due e, ← ex, ← eo, f) (tables-summarized factor y d start beltstart (drop (at + 6) s)))
 
@@ -112,43 +111,45 @@ pub table-was-read : (s : List ℕ) (r : TableAnswer) (carbon : CarbonUnits) (ne
     → (accepted carbon (drop next s) ≡ j) × (next ≤ length s) × SmallCarbon (carbon .0)
 table-was-read s r carbon next j e q i = let k : (next ≤ length s) × SmallCarbon (carbon .0) = rw e at i in (rw e at q, k .0, k .1)
 
-pub run-refused : (s : List ℕ) (r : RunAnswer) (n : ℕ) (j : Judged Summed) → r ≡ RunAnswer.Refused n → runSays s r ≡ j → refused n ≡ j
-run-refused s r n j e q = rw e at q
+-- the part of the bytes from at, and what the run in it said
+pub rest-is : (s : List ℕ) (at : ℕ) → take (length s - at) (drop at s) ≡ drop at s
+rest-is s at = take-all (length s - at) (drop at s) (omega (arith, length-drop at s))
 
-pub run-was-read : (s : List ℕ) (r : RunAnswer) (grams : Grams) (count next : ℕ) (j : Judged Summed) → r ≡ RunAnswer.Read grams count next → runSays s r ≡ j → runInside s r
-    → (accepted (record { grams = grams; count = count }) (drop next s) ≡ j) × (next ≤ length s) × SmallGrams (grams .0)
-run-was-read s r grams count next j e q i =
-    let k : (next ≤ length s) × (mag (grams .0) ≤ 240000000000000) = rw e at i in
-    (rw e at q, k .0, omega arith)
+module _ (s : List ℕ) (at : ℕ) (r : RunAnswer) (j : Judged Grams) (q : runSays (drop at s) r ≡ j) where
+  pub run-refused : (n : ℕ) → r ≡ RunAnswer.Refused n → refused n ≡ j
+  run-refused n e = rw e at q
+
+  pub run-was-read : (grams : Grams) (next : ℕ) → at ≤ length s → r ≡ RunAnswer.Read grams next → runInside (drop at s) r
+      → (accepted grams (drop (at + next) s) ≡ j) × (at + next ≤ length s) × SmallGrams (grams .0)
+  run-was-read grams next h e i =
+      let k : (next ≤ length (drop at s)) × (mag (grams .0) ≤ 240000000000000) = rw e at i in
+      let l : next ≤ length s - at = rw length-drop at (k .0) in
+      (rw (e, drop-drop) at q, omega arith, omega arith)
 
 -- the records of a year keep its small tables
-pub records-keep : (s : List ℕ) (r : YearAnswer) (calendarYear days : ℕ) (p b : CarbonUnits) (u : List ℕ)
-    → yearSays s r ≡ summarizedRecords calendarYear days p b u → recordsInside s r → SmallCarbon (p .0) → SmallCarbon (b .0)
-    → tablesInside s r
+pub records-keep : (s : List ℕ) (r : YearAnswer) (days : ℕ) (p b : CarbonUnits) (u : List ℕ) → yearSays s r ≡ summarizedRecords days p b u
+    → recordsInside s r → SmallCarbon (p .0) → SmallCarbon (b .0) → tablesInside s r
 unfolding summarizedRecords _>>=_ give
-records-keep s (YearAnswer.Refused n) calendarYear days p b u q i hp hb = tt
-records-keep s (YearAnswer.Read year′ days′ p′ b′ activity next) calendarYear days p b u q i hp hb =
+records-keep s (YearAnswer.Refused n) days p b u q i hp hb = tt
+records-keep s (YearAnswer.Read days′ p′ b′ activity next) days p b u q i hp hb =
     let w = step (summedActivities u) _ (sym q) in
     let m = was (w .3) .0 in
     let ep : p′ ≡ p = ap (λ (x : Summary). x .project) (sym m) in
     let eb : b′ ≡ b = ap (λ (x : Summary). x .belt) (sym m) in
     (i .0, rw ep hp, rw eb hb, i .1)
 
--- the year and days that were read
-tables-year : (factor : ℕ → ℕ → ℕ) (calendarYear days projectTotal beltTotal : ℕ) (u : List ℕ) (m : Summary) (v : List ℕ)
-    → summarizedTables factor calendarYear days projectTotal beltTotal u ≡ accepted m v
-    → (m .year ≡ calendarYear) × (m .days ≡ days)
+-- the days that were read
+tables-days : (factor : ℕ → ℕ → ℕ) (days projectTotal beltTotal : ℕ) (u : List ℕ) (m : Summary) (v : List ℕ)
+    → summarizedTables factor days projectTotal beltTotal u ≡ accepted m v → m .days ≡ days
 unfolding summarizedTables summarizedRecords _>>=_ give
-tables-year factor calendarYear days projectTotal beltTotal u m v e =
+tables-days factor days projectTotal beltTotal u m v e =
     let p = step (monitoredTable factor CP projectTotal u) _ e in
     let b = step (monitoredTable factor CD beltTotal (p .1)) _ (p .3) in
     let r = step (summedActivities (b .1)) _ (b .3) in
-    let w = was (r .3) .0 in
-    (ap (λ (x : Summary). x .year) (sym w), ap (λ (x : Summary). x .days) (sym w))
+    ap (λ (x : Summary). x .days) (sym (was (r .3) .0))
 
 pub fits : (factor : ℕ → ℕ → ℕ) (s : List ℕ) (r : YearAnswer) (due left days projectTotal beltTotal : ℕ) (u : List ℕ)
-    → yearSays s r ≡ summarizedTables factor due days projectTotal beltTotal u → (left ≡ 0 → ⊥) → days ≤ daysInYear due → yearFits due left r
+    → yearSays s r ≡ summarizedTables factor days projectTotal beltTotal u → (left ≡ 0 → ⊥) → days ≤ daysInYear due → yearFits due left r
 fits factor s (YearAnswer.Refused n) due left days projectTotal beltTotal u q some h = tt
-fits factor s (YearAnswer.Read year′ days′ p b activity next) due left days projectTotal beltTotal u q some h =
-    let w = tables-year factor due days projectTotal beltTotal u _ _ (sym q) in
-    (omega (arith, some), w .0, rw (w .0, w .1) h)
+fits factor s (YearAnswer.Read days′ p b activity next) due left days projectTotal beltTotal u q some h =
+    (omega (arith, some), rw (tables-days factor days projectTotal beltTotal u _ _ (sym q)) h)

@@ -1,7 +1,6 @@
 -- A year as the reckoning takes it, its tables by their carbon and its records by their emissions, and what the answers say.
 -- Assumes nothing.
 use Prim.Native.Nat.{ℕ, _≤_}
-use mathlib.Core.Path.{_≡_}
 use mathlib.Core.List.{List}
 use lib.IntN.{pos}
 use lib.ListN.{length, drop}
@@ -37,7 +36,6 @@ tableInside s (TableAnswer.Refused n) = Unit {0}
 
 -- ---- YR to the last activity record
 pub record Summary : Type 0 where
-  pub year : ℕ
   pub days : ℕ
   pub project : CarbonUnits
   pub belt : CarbonUnits
@@ -45,7 +43,6 @@ pub record Summary : Type 0 where
 
 abbrev pub summary : (ℕ → ℕ → ℕ) → Year → Summary
 summary factor y = record {
-  year = y .year;
   days = y .operatingDays;
   project = record { 0 = monitoredCarbon factor (y .conversions) };
   belt = record { 0 = monitoredCarbon factor (y .beltConversions) };
@@ -58,31 +55,31 @@ summarizedYear factor dueYear left start beltstart = do
   give (summary factor y)
 
 -- from the activity records on, and from CP on
-unfoldable pub summarizedRecords : ℕ → ℕ → CarbonUnits → CarbonUnits → Reader Summary
-summarizedRecords calendarYear days project belt = do
-  r ← summedActivities
-  give (record { year = calendarYear; days = days; project = project; belt = belt; activity = r .grams })
+unfoldable pub summarizedRecords : ℕ → CarbonUnits → CarbonUnits → Reader Summary
+summarizedRecords days project belt = do
+  grams ← summedActivities
+  give (record { days = days; project = project; belt = belt; activity = grams })
 
-unfoldable pub summarizedTables : (ℕ → ℕ → ℕ) → ℕ → ℕ → ℕ → ℕ → Reader Summary
-summarizedTables factor calendarYear days projectTotal beltTotal = do
+unfoldable pub summarizedTables : (ℕ → ℕ → ℕ) → ℕ → ℕ → ℕ → Reader Summary
+summarizedTables factor days projectTotal beltTotal = do
   p ← monitoredTable factor CP projectTotal
   b ← monitoredTable factor CD beltTotal
-  summarizedRecords calendarYear days p b
+  summarizedRecords days p b
 
 abbrev pub yearSays : List ℕ → YearAnswer → Judged Summary
-yearSays s (YearAnswer.Read year days project belt activity next) = accepted (record { year = year; days = days; project = project; belt = belt; activity = activity }) (drop next s)
+yearSays s (YearAnswer.Read days project belt activity next) = accepted (record { days = days; project = project; belt = belt; activity = activity }) (drop next s)
 yearSays s (YearAnswer.Refused n) = refused n
 
 -- the next record begins inside, and carbon and grams are small
 abbrev pub recordsInside : List ℕ → YearAnswer → Type 0
-recordsInside s (YearAnswer.Read year days project belt activity next) = (next ≤ length s) × SmallGrams (activity .0)
+recordsInside s (YearAnswer.Read days project belt activity next) = (next ≤ length s) × SmallGrams (activity .0)
 recordsInside s (YearAnswer.Refused n) = Unit {0}
 
 abbrev pub tablesInside : List ℕ → YearAnswer → Type 0
-tablesInside s (YearAnswer.Read year days project belt activity next) = (next ≤ length s) × SmallCarbon (project .0) × SmallCarbon (belt .0) × SmallGrams (activity .0)
+tablesInside s (YearAnswer.Read days project belt activity next) = (next ≤ length s) × SmallCarbon (project .0) × SmallCarbon (belt .0) × SmallGrams (activity .0)
 tablesInside s (YearAnswer.Refused n) = Unit {0}
 
--- a year was left, it is the one that is due, and d is no more than its days
+-- a year was left, and d is no more than the days of the one that is due
 abbrev pub yearFits : ℕ → ℕ → YearAnswer → Type 0
-yearFits due left (YearAnswer.Read year days project belt activity next) = (1 ≤ left) × (year ≡ due) × (days ≤ daysInYear year)
+yearFits due left (YearAnswer.Read days project belt activity next) = (1 ≤ left) × (days ≤ daysInYear due)
 yearFits due left (YearAnswer.Refused n) = Unit {0}

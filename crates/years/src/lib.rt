@@ -28,7 +28,6 @@ enum TableAnswer {
 
 pub enum YearAnswer {
     Read {
-        year: u64,
         days: u64,
         project: CarbonUnits,
         belt: CarbonUnits,
@@ -74,7 +73,6 @@ fn read_table(s: &[u8], at: usize, m: u64, total: AreaUnits, factors: &[u64; 144
 fn read_tables(
     s: &[u8],
     at: usize,
-    year: u64,
     days: u64,
     project: AreaUnits,
     belt: AreaUnits,
@@ -82,7 +80,7 @@ fn read_tables(
 ) -> YearAnswer
     requires { ⌜ (at ≤ length (now s)) × SmallArea (project .0) × SmallArea (belt .0) ⌝ }
     requires { ⌜ FactorsFit (now factors) ⌝ }
-    ensures { λ r. ⌜ yearSays (now (s .entry)) r ≡ summarizedTables (entry (now (factors .entry))) year days (project .0) (belt .0) (drop at (now (s .entry))) ⌝ }
+    ensures { λ r. ⌜ yearSays (now (s .entry)) r ≡ summarizedTables (entry (now (factors .entry))) days (project .0) (belt .0) (drop at (now (s .entry))) ⌝ }
     ensures { λ r. ⌜ tablesInside (now (s .entry)) r ⌝ }
 {
     match read_table(s, at, CP, project, factors) {
@@ -92,7 +90,7 @@ fn read_tables(
             TableAnswer::Read {
                 carbon: belt_carbon,
                 next: records,
-            } => read_records(s, records, year, days, carbon, belt_carbon),
+            } => read_records(s, records, days, carbon, belt_carbon),
         },
     }
 }
@@ -101,28 +99,22 @@ fn read_tables(
 fn read_records(
     s: &[u8],
     at: usize,
-    year: u64,
     days: u64,
     project: CarbonUnits,
     belt: CarbonUnits,
 ) -> YearAnswer
     requires { ⌜ at ≤ length (now s) ⌝ }
-    ensures { λ r. ⌜ yearSays (now (s .entry)) r ≡ summarizedRecords year days project belt (drop at (now (s .entry))) ⌝ }
+    ensures { λ r. ⌜ yearSays (now (s .entry)) r ≡ summarizedRecords days project belt (drop at (now (s .entry))) ⌝ }
     ensures { λ r. ⌜ recordsInside (now (s .entry)) r ⌝ }
 {
-    match activities::read_run(s, at) {
+    match activities::read_run(&s[at..]) {
         activities::RunAnswer::Refused(n) => YearAnswer::Refused(n),
-        activities::RunAnswer::Read {
-            grams,
-            count: _,
-            next,
-        } => YearAnswer::Read {
-            year,
+        activities::RunAnswer::Read { grams, next } => YearAnswer::Read {
             days,
             project,
             belt,
             activity: grams,
-            next,
+            next: at + next,
         },
     }
 }
@@ -191,5 +183,5 @@ pub fn read_year(
     if cursor::outside(days, 1, classes::days_in_year(year)) {
         return YearAnswer::Refused(6);
     }
-    read_tables(s, at + 6, year, days, project, belt, factors)
+    read_tables(s, at + 6, days, project, belt, factors)
 }

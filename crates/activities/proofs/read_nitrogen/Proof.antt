@@ -2,26 +2,24 @@
 -- Assumes nothing.
 use native.Mathlib.Omega.{arith}
 use borrow.Author.Needs.{needs}
-use Rattle.dossier.specs.JudgingRecords.{nitrogen}
+use Rattle.wire.specs.Bytes.{total}
+use Rattle.dossier.specs.JudgingRecords.{inRange, fieldsOf}
 use Rattle.activities.proofs.RecordLaws.{judging}
 use Rattle.activities.proofs.read_nitrogen.Statement.{statement}
 use Rattle.activities.proofs.read_nitrogen.Tie as tie
 
-begun-requires : tie.Need-begun-requires
-begun-requires c κs = search needs
+sub-if1 : tie.Need-sub-if1
+sub-if1 c = search needs
 
 returns : tie.Need-returns
-unfolding nitrogen
-returns c = (search judging, tt)
-
-add-field8 : tie.Need-add-field8
-add-field8 c = search needs
+unfolding fieldsOf total inRange
+returns c = (search judging depth 12, tt)
 
 field8-requires : tie.Need-field8-requires
 field8-requires c κs = search needs
 
-add-field8-2 : tie.Need-add-field8-2
-add-field8-2 c = search needs
+add-field8 : tie.Need-add-field8
+add-field8 c = search needs
 
 field8-requires-2 : tie.Need-field8-requires-2
 field8-requires-2 c κs = search needs
@@ -42,46 +40,45 @@ outside-requires : tie.Need-outside-requires
 outside-requires c κs = search needs
 
 returns-2 : tie.Need-returns-2
-unfolding nitrogen
+unfolding fieldsOf total inRange
 returns-2 c = (search judging depth 12, tt)
 
 outside-requires-2 : tie.Need-outside-requires-2
 outside-requires-2 c κs = search needs
 
 returns-3 : tie.Need-returns-3
-unfolding nitrogen
+unfolding fieldsOf total inRange
 returns-3 c = (search judging depth 12, tt)
 
 outside-requires-3 : tie.Need-outside-requires-3
 outside-requires-3 c κs = search needs
 
 returns-4 : tie.Need-returns-4
-unfolding nitrogen
+unfolding fieldsOf total inRange
 returns-4 c = (search judging depth 12, tt)
 
 outside-requires-4 : tie.Need-outside-requires-4
 outside-requires-4 c κs = search needs
 
 returns-5 : tie.Need-returns-5
-unfolding nitrogen
+unfolding fieldsOf total inRange
 returns-5 c = (search judging depth 12, tt)
 
-add-t9 : tie.Need-add-t9
-add-t9 c = search needs
+add-t8 : tie.Need-add-t8
+add-t8 c = search needs
 
 returns-6 : tie.Need-returns-6
-unfolding nitrogen
-returns-6 c = (search judging depth 12, (omega arith, record { sources = search judging; crops = search judging; amount = search judging; share = search judging }))
+unfolding fieldsOf total inRange
+returns-6 c = (search judging depth 12, omega arith)
 
 pub read-nitrogen-spec : {M : Type 1} → statement M
 read-nitrogen-spec =
     tie.close
     (tie.spec
-    begun-requires
+    sub-if1
     returns
-    add-field8
     field8-requires
-    add-field8-2
+    add-field8
     field8-requires-2
     add-field64
     field64-requires
@@ -95,5 +92,5 @@ read-nitrogen-spec =
     returns-4
     outside-requires-4
     returns-5
-    add-t9
+    add-t8
     returns-6)

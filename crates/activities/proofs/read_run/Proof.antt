@@ -3,43 +3,54 @@
 use Prim.Native.Nat.{_-_}
 use native.Mathlib.Omega.{arith}
 use borrow.Author.Needs.{needs}
-use Rattle.activities.proofs.MarkLaws.{two-left}
-use Rattle.activities.proofs.RunLaws.{SoFar, none-yet, small-sum, read-range, sum-fits, over, full, faulty, one-more}
+use Rattle.activities.proofs.RunLaws.{SoFar, none-yet, running}
 use Rattle.activities.proofs.read_run.Statement.{statement}
 use Rattle.activities.proofs.read_run.Tie as tie
 
 abbrev Inv-loop : tie.InvT-loop
-Inv-loop s start at₀ grams₀ count₀ at grams count = SoFar s start at grams count
+Inv-loop part at₀ grams₀ count₀ at grams count = SoFar part at grams count
 
 abbrev μ-loop : tie.MeasureT-loop
-μ-loop s start at₀ grams₀ count₀ at grams count = 60 - count
+μ-loop part at₀ grams₀ count₀ at grams count = 60 - count
 
 loop-holds : tie.Need-loop-holds Inv-loop μ-loop
 loop-holds c = search (needs, none-yet)
+
+sub-loop : tie.Need-sub-loop Inv-loop μ-loop
+sub-loop c = search needs
+
+field16-requires : tie.Need-field16-requires Inv-loop μ-loop
+field16-requires c κs = search needs
 
 due-requires : tie.Need-due-requires Inv-loop μ-loop
 due-requires c κs = search needs
 
 returns : tie.Need-returns Inv-loop μ-loop
-returns c = (search (needs, full), tt)
+returns c = (search (needs, running), (search needs, search (needs, running)))
+
+returns-2 : tie.Need-returns-2 Inv-loop μ-loop
+returns-2 c = (search (needs, running), tt)
+
+add-read-activity : tie.Need-add-read-activity Inv-loop μ-loop
+add-read-activity c = search needs
 
 read-activity-requires : tie.Need-read-activity-requires Inv-loop μ-loop
-read-activity-requires c κs = search (needs, two-left)
+read-activity-requires c κs = search needs
 
 enum-known-activity : tie.Need-enum-known-activity Inv-loop μ-loop
 enum-known-activity c = search needs
 
 emissions-requires : tie.Need-emissions-requires Inv-loop μ-loop
-emissions-requires c κs = search (needs, read-range)
+emissions-requires c κs = search (needs, running)
 
 plus-requires : tie.Need-plus-requires Inv-loop μ-loop
-plus-requires c κs = search (needs, sum-fits)
+plus-requires c κs = search (needs, running)
 
 enum-known-n : tie.Need-enum-known-n Inv-loop μ-loop
 enum-known-n c = search needs
 
-returns-2 : tie.Need-returns-2 Inv-loop μ-loop
-returns-2 c = (search (needs, faulty), tt)
+returns-3 : tie.Need-returns-3 Inv-loop μ-loop
+returns-3 c = (search (needs, running), tt)
 
 add-count : tie.Need-add-count Inv-loop μ-loop
 add-count c = omega arith
@@ -48,10 +59,10 @@ loop-less : tie.Need-loop-less Inv-loop μ-loop
 loop-less c = omega arith
 
 loop-again : tie.Need-loop-again Inv-loop μ-loop
-loop-again c = search (needs, one-more)
+loop-again c = search (needs, running)
 
-returns-3 : tie.Need-returns-3 Inv-loop μ-loop
-returns-3 c = (search (needs, over), (search needs, search (needs, small-sum)))
+returns-4 : tie.Need-returns-4 Inv-loop μ-loop
+returns-4 c = (search (needs, running), (search needs, search (needs, running)))
 
 pub read-run-spec : {M : Type 1} → statement M
 read-run-spec =
@@ -60,15 +71,19 @@ read-run-spec =
     Inv-loop
     μ-loop
     loop-holds
+    sub-loop
+    field16-requires
     due-requires
     returns
+    returns-2
+    add-read-activity
     read-activity-requires
     enum-known-activity
     emissions-requires
     plus-requires
     enum-known-n
-    returns-2
+    returns-3
     add-count
     loop-less
     loop-again
-    returns-3)
+    returns-4)

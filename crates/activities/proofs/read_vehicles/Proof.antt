@@ -4,8 +4,9 @@ use Prim.Native.Nat.{_≤_}
 use native.Mathlib.Nat.{mul-le-mul}
 use native.Mathlib.Omega.{arith}
 use borrow.Author.Needs.{needs}
+use Rattle.wire.specs.Bytes.{total}
+use Rattle.dossier.specs.JudgingRecords.{inRange, fieldsOf}
 use Rattle.activities.proofs.RecordLaws.{judging}
-use Rattle.dossier.specs.JudgingRecords.{vehicles}
 use Rattle.activities.proofs.read_vehicles.Statement.{statement}
 use Rattle.activities.proofs.read_vehicles.Tie as tie
 
@@ -14,15 +15,12 @@ factors : (c : tie.Else5) → let r = c .before .before .before .before .before 
     (r .before .before .field32 .result ≤ 1000) × (r .before .field322 .result ≤ 1000000) × (r .field323 .result ≤ 100000)
 factors c = (search judging, search judging, search judging)
 
-begun-requires : tie.Need-begun-requires
-begun-requires c κs = search needs
+sub-if1 : tie.Need-sub-if1
+sub-if1 c = search needs
 
 returns : tie.Need-returns
-unfolding vehicles
-returns c = (search judging, tt)
-
-add-field8 : tie.Need-add-field8
-add-field8 c = search needs
+unfolding fieldsOf total inRange
+returns c = (search judging depth 12, tt)
 
 field8-requires : tie.Need-field8-requires
 field8-requires c κs = search needs
@@ -49,28 +47,28 @@ outside-requires : tie.Need-outside-requires
 outside-requires c κs = search needs
 
 returns-2 : tie.Need-returns-2
-unfolding vehicles
+unfolding fieldsOf total inRange
 returns-2 c = (search judging depth 12, tt)
 
 outside-requires-2 : tie.Need-outside-requires-2
 outside-requires-2 c κs = search needs
 
 returns-3 : tie.Need-returns-3
-unfolding vehicles
+unfolding fieldsOf total inRange
 returns-3 c = (search judging depth 12, tt)
 
 outside-requires-3 : tie.Need-outside-requires-3
 outside-requires-3 c κs = search needs
 
 returns-4 : tie.Need-returns-4
-unfolding vehicles
+unfolding fieldsOf total inRange
 returns-4 c = (search judging depth 12, tt)
 
 outside-requires-4 : tie.Need-outside-requires-4
 outside-requires-4 c κs = search needs
 
 returns-5 : tie.Need-returns-5
-unfolding vehicles
+unfolding fieldsOf total inRange
 returns-5 c = (search judging depth 12, tt)
 
 mul-outside : tie.Need-mul-outside
@@ -83,24 +81,22 @@ outside-requires-5 : tie.Need-outside-requires-5
 outside-requires-5 c κs = search needs
 
 returns-6 : tie.Need-returns-6
-unfolding vehicles
+unfolding fieldsOf total inRange
 returns-6 c = (search judging depth 12, tt)
 
-add-t9 : tie.Need-add-t9
-add-t9 c = search needs
+add-t8 : tie.Need-add-t8
+add-t8 c = search needs
 
 returns-7 : tie.Need-returns-7
-unfolding vehicles
-returns-7 c = let f = factors (c .before .before) in
-    (search judging depth 12, (omega arith, record { kinds = search judging; counted = f .0; used = f .1; rated = f .2; product = search judging }))
+unfolding fieldsOf total inRange
+returns-7 c = (search judging depth 12, omega arith)
 
 pub read-vehicles-spec : {M : Type 1} → statement M
 read-vehicles-spec =
     tie.close
     (tie.spec
-    begun-requires
+    sub-if1
     returns
-    add-field8
     field8-requires
     add-field32
     field32-requires
@@ -120,5 +116,5 @@ read-vehicles-spec =
     mul-outside-2
     outside-requires-5
     returns-6
-    add-t9
+    add-t8
     returns-7)

@@ -1,75 +1,62 @@
 -- `activity::emissions` meets its contract: each variant's function takes its fields in range and rounds its numerator over its denominator.
 -- Assumes nothing.
-use mathlib.Core.Path.{_∙_, ap}
 use native.Mathlib.Nat.{mul-le-mul}
 use native.Mathlib.Omega.{arith}
-use lib.IntN.{pos}
 use borrow.Author.Needs.{needs}
-use Rattle.activity.specs.Activity.{VehiclesInRange, activityGrams, numerator, denominator}
+use Rattle.activity.specs.declared.Activity.the-variants.{Vehicles}
+use Rattle.activity.specs.Activity.{ActivityInRange, activityGrams, numerator, denominator}
 use Rattle.activity.proofs.emissions.Statement.{statement}
 use Rattle.activity.proofs.emissions.Tie as tie
 
--- in the arm of vehicles, their range
-vehicles : (c : tie.After-activity2) → VehiclesInRange (c .activity2 .given .0 .0) (c .activity2 .given .0 .1 .0) (c .activity2 .given .0 .1 .1 .0) (c .activity2 .given .0 .1 .1 .1 .0)
+-- in the arm of vehicles, their ranges
+vehicles : (c : tie.After-activity2) → let f = c .activity2 .given .0 in ActivityInRange (Vehicles (f .0) (f .1 .0) (f .1 .1 .0) (f .1 .1 .1 .0))
 vehicles c = rw (c .activity2 .given .1) at (c .before .before .pre)
 
 enum-known-activity : tie.Need-enum-known-activity
 enum-known-activity c = search needs
 
 fuel-emissions-requires : tie.Need-fuel-emissions-requires
-fuel-emissions-requires c κs = let h = rw (c .before .activity .given .1) at (c .before .before .before .pre) in (h .kinds, h .amount)
-
-of-requires : tie.Need-of-requires
-of-requires c κs = search needs
+fuel-emissions-requires c κs = let h = rw (c .before .activity .given .1) at (c .before .before .before .pre) in (h .0, omega arith)
 
 enum-known-activity-2 : tie.Need-enum-known-activity-2
 enum-known-activity-2 c = search needs
 
 mul-fuel-emissions : tie.Need-mul-fuel-emissions
-mul-fuel-emissions c = let h = vehicles (c .before) in omega (arith, mul-le-mul (h .counted) (h .used))
+mul-fuel-emissions c = let h = vehicles (c .before) in omega (arith, mul-le-mul (h .1 .0 .most) (h .1 .1 .0 .most))
 
 mul-fuel-emissions-2 : tie.Need-mul-fuel-emissions-2
 mul-fuel-emissions-2 c = omega (arith, vehicles (c .before))
 
 fuel-emissions-requires-2 : tie.Need-fuel-emissions-requires-2
-fuel-emissions-requires-2 c κs = let h = vehicles (c .before) in (h .kinds, h .product)
-
-of-requires-2 : tie.Need-of-requires-2
-of-requires-2 c κs = search needs
+fuel-emissions-requires-2 c κs = let h = vehicles (c .before) in (h .0, omega arith)
 
 enum-known-activity-3 : tie.Need-enum-known-activity-3
 enum-known-activity-3 c = search needs
 
 nitrogen-emissions-requires : tie.Need-nitrogen-emissions-requires
-nitrogen-emissions-requires c κs = let h = rw (c .before .activity3 .given .1) at (c .before .before .before .pre) in (h .sources, (h .crops, (h .amount, h .share)))
-
-of-requires-3 : tie.Need-of-requires-3
-of-requires-3 c κs = search needs
+nitrogen-emissions-requires c κs = let h = rw (c .before .activity3 .given .1) at (c .before .before .before .pre) in (h .0, (h .1 .0, omega arith))
 
 enum-known-activity-4 : tie.Need-enum-known-activity-4
 enum-known-activity-4 c = search needs
 
 lime-emissions-requires : tie.Need-lime-emissions-requires
-lime-emissions-requires c κs = let h = rw (c .before .activity4 .given .1) at (c .before .before .before .pre) in (h .materials, h .amount)
-
-of-requires-4 : tie.Need-of-requires-4
-of-requires-4 c κs = search needs
+lime-emissions-requires c κs = let h = rw (c .before .activity4 .given .1) at (c .before .before .before .pre) in (h .0, omega arith)
 
 returns : tie.Need-returns
 unfolding activityGrams numerator denominator
-returns c = rw (c .before .before .before .activity .given .1) (c .of .ensures ∙ ap pos (c .before .fuel-emissions .ensures .0))
+returns c = rw (c .before .before .activity .given .1) (c .fuel-emissions .ensures)
 
 returns-2 : tie.Need-returns-2
 unfolding activityGrams numerator denominator
-returns-2 c = rw (c .before .before .before .activity2 .given .1) (c .of2 .ensures ∙ ap pos (c .before .fuel-emissions2 .ensures .0))
+returns-2 c = rw (c .before .before .activity2 .given .1) (c .fuel-emissions2 .ensures)
 
 returns-3 : tie.Need-returns-3
 unfolding activityGrams numerator denominator
-returns-3 c = rw (c .before .before .before .activity3 .given .1) (c .of3 .ensures ∙ ap pos (c .before .nitrogen-emissions .ensures .0))
+returns-3 c = rw (c .before .before .activity3 .given .1) (c .nitrogen-emissions .ensures)
 
 returns-4 : tie.Need-returns-4
 unfolding activityGrams numerator denominator
-returns-4 c = rw (c .before .before .before .activity4 .given .1) (c .of4 .ensures ∙ ap pos (c .before .lime-emissions .ensures .0))
+returns-4 c = rw (c .before .before .activity4 .given .1) (c .lime-emissions .ensures)
 
 pub emissions-spec : {M : Type 1} → statement M
 emissions-spec =
@@ -77,18 +64,14 @@ emissions-spec =
     (tie.spec
     enum-known-activity
     fuel-emissions-requires
-    of-requires
     enum-known-activity-2
     mul-fuel-emissions
     mul-fuel-emissions-2
     fuel-emissions-requires-2
-    of-requires-2
     enum-known-activity-3
     nitrogen-emissions-requires
-    of-requires-3
     enum-known-activity-4
     lime-emissions-requires
-    of-requires-4
     returns
     returns-2
     returns-3

@@ -1,9 +1,11 @@
 -- `activity::nitrogen_emissions` meets its contract: the quotient's multiple and the remainder's rounded quotient sum to the rounded whole.
 -- Assumes nothing.
 use Prim.Native.Nat.{ℕ, _+_, _*_, _/_, _%_, _≤_}
+use mathlib.Core.Path.{_≡_, _∙_, ap}
 use native.Mathlib.Nat.{mul-le-mul, mul-assoc}
 use native.Mathlib.Omega.{arith}
 use lib.Dec.{lit≤}
+use lib.IntN.{pos}
 use borrow.Author.Needs.{needs}
 use Rattle.arithmetic.specs.Rounding.{ceilDiv}
 use Rattle.arithmetic.proofs.RoundingLaws.{split-up}
@@ -24,9 +26,12 @@ nitrogen-most c = omega (arith, mul-le-mul (c .before .pre .1 .1 .0) (c .before 
 weight-most : (c : tie.After-n2o-share) → weight c ≤ 4671150
 weight-most c = omega arith
 
--- so both parts of the sum are within the bound of the whole
-sum-le : (c : tie.After-n2o-share) → nitrogen c / 7000000000 * weight c + ceilDiv (nitrogen c % 7000000000 * weight c) 7000000000 ≤ 4000000000000
-sum-le c = rw (split-up (nitrogen c) (weight c) 7000000000 (lit≤ tt)) (nitrogen-le (nitrogen-most c) (weight-most c))
+-- the sum is the rounded whole, within its bound
+sum-is : (c : tie.After-divided-up) → let n = c .before in nitrogen n / 7000000000 * weight n + c .divided-up .result ≡ ceilDiv (nitrogen n * weight n) 7000000000
+sum-is c = rw (c .divided-up .ensures) (split-up _ _ 7000000000 (lit≤ tt))
+
+sum-le : (c : tie.After-divided-up) → ceilDiv (nitrogen (c .before) * weight (c .before)) 7000000000 ≤ 4000000000000
+sum-le c = nitrogen-le (nitrogen-most (c .before)) (weight-most (c .before))
 
 n2o-share-requires : tie.Need-n2o-share-requires
 n2o-share-requires c κs = search needs
@@ -37,20 +42,25 @@ mul-weight c = search needs
 mul-nitrogen : tie.Need-mul-nitrogen
 mul-nitrogen c = omega (arith, nitrogen-most c)
 
-mul-result : tie.Need-mul-result
-mul-result c = omega (arith, sum-le c)
-
 mul-divided-up : tie.Need-mul-divided-up
 mul-divided-up c = let r : nitrogen c % 7000000000 ≤ 7000000000 = omega arith in omega (arith, mul-le-mul r (weight-most c))
 
 divided-up-requires : tie.Need-divided-up-requires
 divided-up-requires c κs = search needs
 
-add-result : tie.Need-add-result
-add-result c = omega (arith, sum-le (c .before))
+mul-of : tie.Need-mul-of
+mul-of c = omega (arith, sum-is c, sum-le c)
+
+add-of : tie.Need-add-of
+add-of c = omega (arith, sum-is c, sum-le c)
+
+of-requires : tie.Need-of-requires
+of-requires c κs = omega (arith, sum-is c, sum-le c)
 
 returns : tie.Need-returns
-returns c = (rw (c .divided-up .ensures, ← c .before .n2o-share .ensures .0, mul-assoc (nitrogen (c .before)) _ 3278) (split-up _ _ 7000000000 (lit≤ tt)), omega (arith, sum-le (c .before)))
+returns c =
+    let share = c .before .before .n2o-share .ensures .0 in
+    c .of .ensures ∙ ap pos (sum-is (c .before) ∙ rw (share, ← mul-assoc))
 
 pub nitrogen-emissions-spec : {M : Type 1} → statement M
 nitrogen-emissions-spec =
@@ -59,8 +69,9 @@ nitrogen-emissions-spec =
     n2o-share-requires
     mul-weight
     mul-nitrogen
-    mul-result
     mul-divided-up
     divided-up-requires
-    add-result
+    mul-of
+    add-of
+    of-requires
     returns)

@@ -23,7 +23,7 @@ advance-requires c κs =
     let at-start = at-read .before .before in
     let read = at-read .read-year .ensures in
     let pre = at-start .pre in
-    let r = year-was-read (at-start .args .s .now) _ (at-start .args .state .year) (at-start .args .state .left) _ _ _ _ _ _ _ (c .before .days .given .1) (read .0) (read .1 .0) (read .1 .1) in
+    let r = year-was-read (at-start .args .s .now) _ (at-start .args .state .year) (at-start .args .state .left) _ _ _ _ _ _ (c .before .days .given .1) (read .0) (read .1 .0) (read .1 .1) in
     (pre .1 .0, (pre .1 .1 .0, (pre .1 .1 .1 .0, (r .project, r .belt, r .activity, r .some, r .allowed))))
 
 returns : tie.Need-returns
@@ -38,7 +38,7 @@ returns-2 c =
     let at-read = at-told .before .before in
     let at-start = at-read .before .before in
     let read = at-read .read-year .ensures in
-    let r = year-was-read (at-start .args .s .now) _ (at-start .args .state .year) (at-start .args .state .left) _ _ _ _ _ _ _ (at-told .days .given .1) (read .0) (read .1 .0) (read .1 .1) in
+    let r = year-was-read (at-start .args .s .now) _ (at-start .args .state .year) (at-start .args .state .left) _ _ _ _ _ _ (at-told .days .given .1) (read .0) (read .1 .0) (read .1 .1) in
     (stepped-yes _ _ _ _ _ _ _ _ _ _ (r .says) (c .advance .ensures), r .inside)
 
 pub step-spec : {M : Type 1} → statement M

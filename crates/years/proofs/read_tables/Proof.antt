@@ -44,7 +44,7 @@ returns : tie.Need-returns
 returns c =
     let at-table = c .before .before .before in
     let a = at-table .before .before .args in
-    let no = project-no (entry (a .factors .now)) (a .year) (a .days) (a .project .0) (a .belt .0) (drop (a .at) (a .s .now)) in
+    let no = project-no (entry (a .factors .now)) (a .days) (a .project .0) (a .belt .0) (drop (a .at) (a .s .now)) in
     (no _ (table-refused _ _ _ _ (c .before .n .given .1) (at-table .read-table .ensures .0)), tt)
 
 returns-2 : tie.Need-returns-2
@@ -53,7 +53,7 @@ returns-2 c =
     let k = at-table .before in
     let a = at-project k .before .before .args in
     let p = table-was-read _ _ _ _ _ (k .before .carbon .given .1) (at-project k .read-table .ensures .0) (at-project k .read-table .ensures .1) in
-    let no = belt-no (entry (a .factors .now)) (a .year) (a .days) (a .project .0) (a .belt .0) (drop (a .at) (a .s .now)) in
+    let no = belt-no (entry (a .factors .now)) (a .days) (a .project .0) (a .belt .0) (drop (a .at) (a .s .now)) in
     (no _ _ (p .0) _ (table-refused _ _ _ _ (c .before .n2 .given .1) (at-table .read-table2 .ensures .0)), tt)
 
 returns-3 : tie.Need-returns-3
@@ -63,9 +63,9 @@ returns-3 c =
     let a = at-project k .before .before .args in
     let p = table-was-read _ _ _ _ _ (k .before .carbon .given .1) (at-project k .read-table .ensures .0) (at-project k .read-table .ensures .1) in
     let b = table-was-read _ _ _ _ _ (r .before .belt-carbon .given .1) (at-belt r .read-table2 .ensures .0) (at-belt r .read-table2 .ensures .1) in
-    let yes = belt-yes (entry (a .factors .now)) (a .year) (a .days) (a .project .0) (a .belt .0) (drop (a .at) (a .s .now)) in
+    let yes = belt-yes (entry (a .factors .now)) (a .days) (a .project .0) (a .belt .0) (drop (a .at) (a .s .now)) in
     let (says, inside) = c .read-records .ensures in
-    (says ∙ yes _ _ (p .0) _ _ (b .0), records-keep (a .s .now) (c .read-records .result) _ _ _ _ _ says inside (p .2) (b .2))
+    (says ∙ yes _ _ (p .0) _ _ (b .0), records-keep (a .s .now) (c .read-records .result) _ _ _ _ says inside (p .2) (b .2))
 
 pub read-tables-spec : {M : Type 1} → statement M
 read-tables-spec =

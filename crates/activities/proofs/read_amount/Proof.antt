@@ -1,21 +1,16 @@
--- `activities::read_fuel` meets its contract: it tests what the definition tests, in its order.
+-- `activities::read_amount` meets its contract: it tests what the definition tests of FU and of LI, in its order.
 -- Assumes nothing.
 use native.Mathlib.Omega.{arith}
 use borrow.Author.Needs.{needs}
-use Rattle.dossier.specs.JudgingRecords.{fuel}
 use Rattle.activities.proofs.RecordLaws.{judging}
-use Rattle.activities.proofs.read_fuel.Statement.{statement}
-use Rattle.activities.proofs.read_fuel.Tie as tie
+use Rattle.activities.proofs.read_amount.Statement.{statement}
+use Rattle.activities.proofs.read_amount.Tie as tie
 
-begun-requires : tie.Need-begun-requires
-begun-requires c κs = search needs
+sub-if1 : tie.Need-sub-if1
+sub-if1 c = search needs
 
 returns : tie.Need-returns
-unfolding fuel
-returns c = (search judging, tt)
-
-add-field8 : tie.Need-add-field8
-add-field8 c = search needs
+returns c = (search judging depth 12, tt)
 
 field8-requires : tie.Need-field8-requires
 field8-requires c κs = search needs
@@ -30,30 +25,29 @@ outside-requires : tie.Need-outside-requires
 outside-requires c κs = search needs
 
 returns-2 : tie.Need-returns-2
-unfolding fuel
 returns-2 c = (search judging depth 12, tt)
 
 outside-requires-2 : tie.Need-outside-requires-2
 outside-requires-2 c κs = search needs
 
 returns-3 : tie.Need-returns-3
-unfolding fuel
 returns-3 c = (search judging depth 12, tt)
 
-add-t7 : tie.Need-add-t7
-add-t7 c = search needs
+add-next : tie.Need-add-next
+add-next c = search needs
 
 returns-4 : tie.Need-returns-4
-unfolding fuel
-returns-4 c = (search judging depth 12, (omega arith, search judging))
+returns-4 c = (search judging depth 12, omega arith)
 
-pub read-fuel-spec : {M : Type 1} → statement M
-read-fuel-spec =
+returns-5 : tie.Need-returns-5
+returns-5 c = (search judging depth 12, omega arith)
+
+pub read-amount-spec : {M : Type 1} → statement M
+read-amount-spec =
     tie.close
     (tie.spec
-    begun-requires
+    sub-if1
     returns
-    add-field8
     field8-requires
     add-field64
     field64-requires
@@ -61,5 +55,6 @@ read-fuel-spec =
     returns-2
     outside-requires-2
     returns-3
-    add-t7
-    returns-4)
+    add-next
+    returns-4
+    returns-5)

@@ -1,0 +1,57 @@
+-- Document 01, "The dossier": each activity record as a row of one table. Its bytes, its mark and its judgement come from its row; its ranges are
+-- those of the crate activity.
+-- Assumes nothing.
+use Prim.Native.Nat.{ℕ, _/_}
+use mathlib.Core.List.{List, [], _∷_, _++_}
+use Rattle.activity.specs.declared.Activity.{Activity}
+use Rattle.activity.specs.declared.Activity.the-variants.{Fuel, Vehicles, Nitrogen, Lime}
+use Rattle.wire.specs.Bytes.{bytes}
+use Rattle.dossier.specs.Marks.{FU, VE, NI, LI}
+
+-- a record made of a number for each field
+abbrev pub Made : List ℕ → Type 0
+Made [] = Activity
+Made (w ∷ widths) = ℕ → Made widths
+
+-- a row: the mark, the width of each field in bytes, and the record that the fields make
+pub record Layout : Type 0 where
+  pub mark : ℕ
+  pub widths : List ℕ
+  pub made : Made widths
+
+-- widths in bits, as document 01 gives them
+abbrev pub bits : List ℕ → List ℕ
+bits [] = []
+bits (b ∷ rest) = b / 8 ∷ bits rest
+
+-- "FU kind 8, grams 64; VE kind 8, then three of 32; NI source 8, crop 8, grams 64, content 16; LI material 8, grams 64"
+abbrev pub fuel : Layout
+fuel = record { mark = FU; widths = bits (8 ∷ 64 ∷ []); made = Fuel }
+
+abbrev pub vehicles : Layout
+vehicles = record { mark = VE; widths = bits (8 ∷ 32 ∷ 32 ∷ 32 ∷ []); made = Vehicles }
+
+abbrev pub nitrogen : Layout
+nitrogen = record { mark = NI; widths = bits (8 ∷ 8 ∷ 64 ∷ 16 ∷ []); made = Nitrogen }
+
+abbrev pub lime : Layout
+lime = record { mark = LI; widths = bits (8 ∷ 64 ∷ []); made = Lime }
+
+abbrev pub layouts : List Layout
+layouts = fuel ∷ vehicles ∷ nitrogen ∷ lime ∷ []
+
+-- each number in a field of its width
+abbrev pub inFields : List ℕ → List ℕ → List ℕ
+inFields (w ∷ widths) (x ∷ numbers) = bytes w x ++ inFields widths numbers
+inFields (w ∷ widths) [] = []
+inFields [] numbers = []
+
+-- a row's mark, and its fields with these numbers
+abbrev pub filed : Layout → List ℕ → List ℕ
+filed l numbers = bytes 2 (l .mark) ++ inFields (l .widths) numbers
+
+unfoldable pub activityBytes : Activity → List ℕ
+activityBytes (Fuel kind grams) = filed fuel (kind ∷ grams ∷ [])
+activityBytes (Vehicles kind count average rate) = filed vehicles (kind ∷ count ∷ average ∷ rate ∷ [])
+activityBytes (Nitrogen source crop grams content) = filed nitrogen (source ∷ crop ∷ grams ∷ content ∷ [])
+activityBytes (Lime material grams) = filed lime (material ∷ grams ∷ [])
