@@ -99,7 +99,7 @@ activityMark m = markOf layouts m
 unfoldable pub activityUnder : ℕ → Reader Activity
 activityUnder m = rowUnder layouts m
 
--- an activity record
+-- an activity record: 1 where its mark is cut, 2 where that is none of these
 unfoldable pub activity : Reader Activity
 activity = do
   present 2

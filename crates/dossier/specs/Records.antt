@@ -1,5 +1,5 @@
 -- Document 01, "The dossier": each record's fields, their ranges, and its bytes. What YR, CP, CD and the activity records bring is a Year of the
--- crate figures; an activity record is an Activity of the crate activity, which has its ranges.
+-- crate figures; an activity record is an Activity of the crate activity, which has its ranges; its bytes are in Layouts.
 -- Assumes nothing.
 use Prim.Native.Nat.{ℕ, suc, _-_, _≤_, _<_}
 use mathlib.Core.Path.{_≡_}

@@ -17,7 +17,7 @@ use Rattle.figures.specs.Year.{Year}
 use Rattle.wire.specs.Bytes.{fieldAt}
 use Rattle.dossier.specs.Marks.{YR, CP, CD}
 use Rattle.dossier.specs.Records.{Due}
-use Rattle.dossier.specs.Reader.{Judged, refused, accepted, Reader, after, _>>=_, _>>_, give, refuse, begin, outside}
+use Rattle.dossier.specs.Reader.{Judged, refused, accepted, Reader, after, _>>=_, give, refuse, begin, outside}
 use Rattle.dossier.specs.JudgingRecords.{conversions}
 use Rattle.dossier.specs.Judging.{activities, noneLeft, yearDue, year}
 use Rattle.cursor.specs.Answers.{begunSays}
@@ -125,8 +125,8 @@ module _ (s : List ℕ) (at : ℕ) (r : RunAnswer) (j : Judged Grams) (q : runSa
       (rw (e, drop-drop) at q, omega arith, omega arith)
 
 -- the records of a year keep its small tables
-pub records-keep : (s : List ℕ) (r : YearAnswer) (days : ℕ) (p b : CarbonUnits) (u : List ℕ) → yearSays s r ≡ summarizedRecords days p b u → recordsInside s r → SmallCarbon (p .0) → SmallCarbon (b .0)
-    → tablesInside s r
+pub records-keep : (s : List ℕ) (r : YearAnswer) (days : ℕ) (p b : CarbonUnits) (u : List ℕ) → yearSays s r ≡ summarizedRecords days p b u
+    → recordsInside s r → SmallCarbon (p .0) → SmallCarbon (b .0) → tablesInside s r
 unfolding summarizedRecords _>>=_ give
 records-keep s (YearAnswer.Refused n) days p b u q i hp hb = tt
 records-keep s (YearAnswer.Read days′ p′ b′ activity next) days p b u q i hp hb =
@@ -137,8 +137,8 @@ records-keep s (YearAnswer.Read days′ p′ b′ activity next) days p b u q i 
     (i .0, rw ep hp, rw eb hb, i .1)
 
 -- the days that were read
-tables-days : (factor : ℕ → ℕ → ℕ) (days projectTotal beltTotal : ℕ) (u : List ℕ) (m : Summary) (v : List ℕ) → summarizedTables factor days projectTotal beltTotal u ≡ accepted m v
-    → m .days ≡ days
+tables-days : (factor : ℕ → ℕ → ℕ) (days projectTotal beltTotal : ℕ) (u : List ℕ) (m : Summary) (v : List ℕ)
+    → summarizedTables factor days projectTotal beltTotal u ≡ accepted m v → m .days ≡ days
 unfolding summarizedTables summarizedRecords _>>=_ give
 tables-days factor days projectTotal beltTotal u m v e =
     let p = step (monitoredTable factor CP projectTotal u) _ e in
@@ -146,7 +146,8 @@ tables-days factor days projectTotal beltTotal u m v e =
     let r = step (summedActivities (b .1)) _ (b .3) in
     ap (λ (x : Summary). x .days) (sym (was (r .3) .0))
 
-pub fits : (factor : ℕ → ℕ → ℕ) (s : List ℕ) (r : YearAnswer) (due left days projectTotal beltTotal : ℕ) (u : List ℕ) → yearSays s r ≡ summarizedTables factor days projectTotal beltTotal u → (left ≡ 0 → ⊥) → days ≤ daysInYear due → yearFits due left r
+pub fits : (factor : ℕ → ℕ → ℕ) (s : List ℕ) (r : YearAnswer) (due left days projectTotal beltTotal : ℕ) (u : List ℕ)
+    → yearSays s r ≡ summarizedTables factor days projectTotal beltTotal u → (left ≡ 0 → ⊥) → days ≤ daysInYear due → yearFits due left r
 fits factor s (YearAnswer.Refused n) due left days projectTotal beltTotal u q some h = tt
 fits factor s (YearAnswer.Read days′ p b activity next) due left days projectTotal beltTotal u q some h =
     (omega (arith, some), rw (tables-days factor days projectTotal beltTotal u _ _ (sym q)) h)
