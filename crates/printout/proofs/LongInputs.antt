@@ -6,9 +6,9 @@ use mathlib.Core.List.{List}
 use lib.ListN.{take}
 use Rattle.wire.specs.Bytes.{Bytes}
 use Rattle.dossier.proofs.FirstBytes.{first-bytes-settle}
-use Rattle.reckoner.specs.Calls.{reckonBuffer}
+use Rattle.reckoner.specs.Calls.{dossierCall, reckonBuffer}
 use Rattle.printout.specs.Printout.{printout}
 
 pub same-printout : (s : List ℕ) → Bytes s → printout (take 65536 s) ≡ printout s
-unfolding printout reckonBuffer
+unfolding printout reckonBuffer dossierCall
 same-printout s bs = rw (first-bytes-settle s bs)

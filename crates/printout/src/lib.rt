@@ -1,26 +1,36 @@
 // What `yearsheet` prints for the bytes it is handed.
-use opening::OpeningAnswer;
+use reckoner::Answer;
+use reckoner::Ledger;
+ghost use mathlib.Core.Path.{_≡_};
+ghost use Prim.Native.Nat.{_≤_};
 ghost use Rattle.sheet.specs.Put.{Written};
-ghost use Rattle.printout.specs.Printout.{printout};
+ghost use Rattle.reckoner.specs.Calls.{HandedBack};
+ghost use Rattle.printout.specs.Printout.{ledgerSheet, printout};
+
+// The sheet of a ledger, from its report in a buffer for 20 years.
+fn write_ledger_sheet(ledger: Ledger, out: &mut [u8; 4096]) -> usize
+    requires { ⌜ HandedBack ledger ⌝ }
+    ensures { λ r. ⌜ Written (ledgerSheet ledger) (now (out .entry)) r (now (out .exit)) ⌝ }
+{
+    let mut result = [0u8; 1312];
+    ledger.close(&mut result);
+    sheet::write_sheet(
+        ledger.first_year() as u16,
+        ledger.years(),
+        &result,
+        out,
+    )
+}
 
 // The sheet of a dossier or the line of its refusal; the number of bytes written. The bytes beyond keep their content.
 pub fn write_printout(dossier: &[u8], out: &mut [u8; 4096]) -> usize
     ensures { λ r. ⌜ Written (printout (now (dossier .entry))) (now (out .entry)) r (now (out .exit)) ⌝ }
 {
-    let mut result = [0u8; 1312];
-    let number = reckoner::reckon(dossier, &mut result);
-    if number != 0 {
-        return sheet::write_refusal(number, out);
-    }
-    let opened = opening::read_opening(dossier, 0);
-    let answer = opened.answer;
+    let made = Ledger::of_dossier(dossier);
+    let answer = made.answer;
+    let ledger = made.ledger;
     match answer {
-        OpeningAnswer::Refused(n) => sheet::write_refusal(n, out),
-        OpeningAnswer::Read { first, years, .. } => sheet::write_sheet(
-            first as u16,
-            years,
-            &result,
-            out,
-        ),
+        Answer::Refused(n) => sheet::write_refusal(n, out),
+        Answer::Accepted => write_ledger_sheet(ledger, out),
     }
 }

@@ -41,6 +41,7 @@ use Rattle.reckoner.proofs.RegionKept.{RegionKept, zero-region, opened-
 pub record LedgerKept (l : Ledger) : Type 0 where
   pub count : l .given + l .state .left ≤ 20
   pub years : l .state .year + l .state .left < 65536
+  pub since : l .given ≤ l .state .year
   pub project : RegionKept (l .terms .start .0) (l .state .project)
   pub belt : RegionKept (l .terms .beltstart .0) (l .state .belt)
   pub total : mag (l .state .total .0) ≤ 2 ^ 56 * l .given
@@ -74,6 +75,7 @@ unfolding emptyLedger newLedger emptyTerms emptyState
 empty-kept = record {
   count = omega arith;
   years = omega arith;
+  since = omega arith;
   project = zero-region;
   belt = zero-region;
   total = omega arith;
@@ -100,6 +102,7 @@ unfolding openedLedger newLedger termsOf stateOf
 opened-kept o h = record {
   count = omega (arith, h .head .count);
   years = omega (arith, h .head .firstYears, h .head .count);
+  since = omega arith;
   project = opened-region (o .projectAreas) (h .projectAreas .twelve) (h .projectAreas .totals .most);
   belt = opened-region (o .beltAreas) (h .beltAreas .twelve) (h .beltAreas .totals .most);
   total = omega arith;
@@ -116,6 +119,7 @@ unfolding givenYear yearAdvanced afterYear afterFigures dueOf
 given-kept l k y h = record {
   count = omega (arith, k .count, h .left);
   years = omega (arith, k .years, h .left);
+  since = omega (arith, k .since);
   project = projected-kept (l .terms .matrix) (k .rows) (l .terms .start .0) (l .state .project) (k .project);
   belt = projected-kept (l .terms .matrix) (k .rows) (l .terms .beltstart .0) (l .state .belt) (k .belt);
   total = omega (arith, k .total, small .credited, mag-plus (l .state .total .0) (f .credited .0));

@@ -12,7 +12,9 @@ use lib.Dec.{ltb}
 use lib.ListN.{length, take}
 use Rattle.wire.specs.Bytes.{Bytes}
 use Rattle.figures.specs.Year.{Year}
-use Rattle.dossier.specs.Records.{Dossier, DossierInRange, dossierBytes}
+use Rattle.figures.specs.Reckoning.{afterFigures, afterYear}
+use Rattle.reckoning.specs.Step.{yearAdvanced}
+use Rattle.dossier.specs.Records.{stateOf, Dossier, DossierInRange, dossierBytes}
 use Rattle.dossier.specs.Reader.{Judged, refused, accepted}
 use Rattle.dossier.specs.Judging.{dossier}
 use Rattle.dossier.proofs.Causes.{dossier-causes}
@@ -20,7 +22,7 @@ use Rattle.dossier.proofs.WellFormed.{dossier-accepted}
 use Rattle.dossier.proofs.FirstBytes.{first-bytes-settle}
 use Rattle.reckoner.specs.declared.Ledger.{Ledger}
 use Rattle.reckoner.specs.declared.Answer.{Answer}
-use Rattle.reckoner.specs.Ledger.{newLedger, openedLedger, givenYear, givenYears, ledgerOf}
+use Rattle.reckoner.specs.Ledger.{newLedger, openedLedger, givenYear, givenYears, ledgerOf, firstYear}
 use Rattle.reckoner.specs.Calls.{answerNumber, closeCall, dossierCall, reckonNumber}
 
 -- every year given is counted
@@ -31,6 +33,18 @@ given-count (y ∷ ys) l = given-count ys (givenYear y l) ∙ unfold givenYear i
 
 pub given-all : (d : Dossier) → DossierInRange d → ledgerOf d .given ≡ d .opening .head .years
 given-all d h = let c = given-count (d .years) (openedLedger (d .opening)) in unfold ledgerOf openedLedger newLedger in omega (arith, c, h .count)
+
+-- and the year that is due moves on with each
+given-year : (ys : List Year) (l : Ledger) → givenYears ys l .state .year ≡ l .state .year + length ys
+unfolding givenYears
+given-year [] l = omega arith
+given-year (y ∷ ys) l = given-year ys (givenYear y l) ∙ unfold givenYear yearAdvanced afterYear afterFigures in omega arith
+
+pub first-is : (d : Dossier) → DossierInRange d → firstYear (ledgerOf d) ≡ d .opening .head .firstYear
+first-is d h =
+    let c = given-count (d .years) (openedLedger (d .opening)) in
+    let y = given-year (d .years) (openedLedger (d .opening)) in
+    unfold ledgerOf openedLedger newLedger stateOf in omega (arith, c, y)
 
 -- "10 comes last": the dossier's own number counts before the buffer's
 pub number-refused : (s : List ℕ) (size n : ℕ) → dossier s ≡ refused n → reckonNumber s size ≡ n

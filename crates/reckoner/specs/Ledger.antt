@@ -1,6 +1,6 @@
 -- Document 01, "Calls and sheet": the ledger, what an opening and a year make of it, and what closing reports.
 -- Assumes nothing.
-use Prim.Native.Nat.{ℕ, _+_, _^_, _≤_, _<_}
+use Prim.Native.Nat.{ℕ, _+_, _-_, _^_, _≤_, _<_}
 use mathlib.Core.Path.{_≡_}
 use mathlib.Core.List.{List, [], _∷_}
 use lib.IntN.{ℤ}
@@ -51,6 +51,10 @@ givenYears (y ∷ ys) l = givenYears ys (givenYear y l)
 -- a dossier's ledger after its last year
 unfoldable pub ledgerOf : Dossier → Ledger
 ledgerOf d = givenYears (d .years) (openedLedger (d .opening))
+
+-- the first of its years: the one that was due when none was given
+abbrev pub firstYear : Ledger → ℕ
+firstYear l = l .state .year - l .given
 
 -- what closing reports: the numbers of the years given so far
 unfoldable pub report : Ledger → List ℤ

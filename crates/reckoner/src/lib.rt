@@ -8,7 +8,7 @@ use reckoning::StepAnswer;
 ghost use mathlib.Core.Path.{_≡_};
 ghost use Prim.Native.Nat.{_≤_, _<_};
 ghost use lib.ListN.{length, drop};
-ghost use Rattle.reckoner.specs.Ledger.{newLedger, withAdvanced, NewlyOpened, Closable};
+ghost use Rattle.reckoner.specs.Ledger.{newLedger, withAdvanced, firstYear, NewlyOpened, Closable};
 ghost use Rattle.reckoner.specs.Calls.{answerNumber, refusedOpening, openCall, yearCall, closeCall, closedBuffer, dossierCall, HandedBack, reckonNumber, reckonBuffer, yearsCall};
 
 // A ledger: the years given, what its opening settled, the state that years change, and the figures of the years given.
@@ -214,6 +214,22 @@ impl Ledger {
             ledger: self,
             answer: Answer::Accepted,
         }
+    }
+
+    // The number of years given so far.
+    pub fn years(self) -> u64
+        ensures { λ r. ⌜ r ≡ self .given ⌝ }
+    {
+        self.given
+    }
+
+    // The first of its years.
+    pub fn first_year(self) -> u64
+        requires { ⌜ HandedBack self ⌝ }
+        ensures { λ r. ⌜ r ≡ firstYear self ⌝ }
+    {
+        let state = self.state;
+        state.year - self.given
     }
 
     // Opened from a dossier and given all its years; an empty ledger where the dossier is refused.
