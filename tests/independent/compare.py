@@ -126,15 +126,15 @@ class Comparison:
         if proved != due:
             self.fail(f"{what} differs {first_difference(proved, due)}", data)
 
-    def independent(self, data):
-        """The independent reckoner's number and ledger; demand 3 is checked on the way."""
+    def independent(self, reckoned, data):
+        """What the independent reckoner makes of the bytes; demand 3 is checked on the way."""
         try:
-            return reckoner.reckon(data, bytearray(1312))
+            return reckoned(data)
         except AssertionError as failed:
             self.fail(str(failed), data)
 
     def reckoning(self, data, lengths):
-        number, ledger = self.independent(data)
+        number, ledger = self.independent(lambda dossier: reckoner.reckon(dossier, bytearray(1312)), data)
         self.endings.add((number, *ending(data)))
         if number == 0:
             credited = [figures[-1] for figures in ledger.years]
@@ -184,7 +184,7 @@ class Comparison:
 
     def calls(self):
         calls = call_list(self.rng)
-        due = trace(calls)
+        due = self.independent(trace, calls)
         self.same("the trace of a list of calls", self.printed(self.ledgertrace, calls), due, calls)
         for line in due.splitlines():
             word, number, *_ = line.split()
