@@ -8,7 +8,7 @@
 
 enum { ROUNDS = 401, CALLS = 20 };
 
-static uint8_t dossier[1 << 17], report[KH_AM004_REPORT(20)];
+static uint8_t dossier[1 << 17], report[KH_AM004_LONGEST_REPORT];
 static size_t length;
 
 typedef uint32_t reckoner(const uint8_t *, size_t, uint8_t *, size_t);

@@ -1,5 +1,5 @@
 /* The KH_AM004 forest credit reckoner for a host in C. Link with libreckoner.a, which `rt staticlib reckoner` makes for
- * x86-64, where size_t has 64 bits. */
+ * x86-64, where size_t has 64 bits. CHANGELOG.md has what each version brought. */
 #ifndef KH_AM004_H
 #define KH_AM004_H
 
@@ -10,48 +10,80 @@
 extern "C" {
 #endif
 
-/* Bytes that hold the report of n years. */
-#define KH_AM004_REPORT(n) (64 * (size_t)(n) + 32)
+/* The version of this header and of the library that belongs to it. The first number rises where something here changes
+ * its meaning, the second where something is added. */
+#define KH_AM004_VERSION_MAJOR 1
+#define KH_AM004_VERSION_MINOR 0
 
-/* Where the report holds what: year y, counted from 0, begins at KH_AM004_YEAR(y), and its figures stand at these offsets
- * from there; the other four numbers follow the n-th year. */
-#define KH_AM004_YEAR(y) (64 * (size_t)(y))
-enum kh_am004_figure {
-    KH_AM004_REFERENCE = 0,
-    KH_AM004_PROJECT = 8,
-    KH_AM004_ACTIVITY_EMISSIONS = 16,
-    KH_AM004_BELT = 24,
-    KH_AM004_BELT_REFERENCE = 32,
-    KH_AM004_DISPLACED = 40,
-    KH_AM004_REDUCTION = 48,
-    KH_AM004_CREDITED = 56
+/* Bytes of the report of n years. */
+#define KH_AM004_REPORT_BYTES(n) (64 * (size_t)(n) + 32)
+
+/* The greatest number of years, and the bytes of the longest dossier and of the longest report. */
+#define KH_AM004_MOST_YEARS 20
+#define KH_AM004_LONGEST_DOSSIER 65062
+#define KH_AM004_LONGEST_REPORT 1312
+
+/* Where the report holds what. Year y, counted from 0, begins at KH_AM004_AT_YEAR(y), and its figures stand at these
+ * offsets from there. */
+#define KH_AM004_AT_YEAR(y) (64 * (size_t)(y))
+enum kh_am004_at {
+    KH_AM004_AT_REFERENCE = 0,
+    KH_AM004_AT_PROJECT = 8,
+    KH_AM004_AT_ACTIVITY = 16,
+    KH_AM004_AT_BELT = 24,
+    KH_AM004_AT_BELT_REFERENCE = 32,
+    KH_AM004_AT_DISPLACED = 40,
+    KH_AM004_AT_REDUCTION = 48,
+    KH_AM004_AT_CREDITED = 56
 };
-#define KH_AM004_TOTAL(n) (64 * (size_t)(n))
-#define KH_AM004_TONNES(n) (64 * (size_t)(n) + 8)
-#define KH_AM004_BALANCE(n) (64 * (size_t)(n) + 16)
-#define KH_AM004_BELT_BALANCE(n) (64 * (size_t)(n) + 24)
 
-/* The number that a call answers. */
+/* After the n-th year stand these four, at offsets from the report's start. */
+#define KH_AM004_AT_TOTAL(n) (64 * (size_t)(n))
+#define KH_AM004_AT_TONNES(n) (64 * (size_t)(n) + 8)
+#define KH_AM004_AT_BALANCE(n) (64 * (size_t)(n) + 16)
+#define KH_AM004_AT_BELT_BALANCE(n) (64 * (size_t)(n) + 24)
+
+/* The number that a call answers; kh_am004_text has its words. */
 enum kh_am004_number {
-    KH_AM004_ACCEPTED = 0,        /* no fault: the report is written */
-    KH_AM004_BYTES_END = 1,       /* the bytes end before or inside a mark still needed, or inside a record */
-    KH_AM004_MARK = 2,            /* a mark that is not due, or bytes after EN */
-    KH_AM004_HEAD = 3,            /* a field of HD out of range */
-    KH_AM004_AREAS = 4,           /* the total of PA or DA wrong */
-    KH_AM004_MATRIX = 5,          /* a row sum of MP wrong */
-    KH_AM004_YEAR_DUE = 6,        /* not the next year, none left, or its days wrong */
-    KH_AM004_CONVERSIONS = 7,     /* the total of CP or CD wrong */
-    KH_AM004_ACTIVITY = 8,        /* an activity field, or the product of VE, out of range */
-    KH_AM004_RECORDS = 9,         /* a 61st activity record of a year */
-    KH_AM004_BUFFER = 10          /* the buffer under KH_AM004_REPORT(n) bytes */
+    KH_AM004_ACCEPTED = 0,
+    KH_AM004_REFUSED_BYTES_END = 1,
+    KH_AM004_REFUSED_MARK = 2,
+    KH_AM004_REFUSED_HEAD = 3,
+    KH_AM004_REFUSED_AREAS = 4,
+    KH_AM004_REFUSED_MATRIX = 5,
+    KH_AM004_REFUSED_YEAR = 6,
+    KH_AM004_REFUSED_CONVERSIONS = 7,
+    KH_AM004_REFUSED_ACTIVITY = 8,
+    KH_AM004_REFUSED_RECORDS = 9,
+    KH_AM004_REFUSED_BUFFER = 10
 };
+
+/* What a number says, in English; "unknown number" for any that no call answers. */
+static inline const char *kh_am004_text(uint32_t number)
+{
+    switch (number) {
+    case KH_AM004_ACCEPTED: return "nothing wrong: accepted";
+    case KH_AM004_REFUSED_BYTES_END: return "the bytes end too early";
+    case KH_AM004_REFUSED_MARK: return "a record where it may not stand, EN with years still missing, or bytes after EN";
+    case KH_AM004_REFUSED_HEAD: return "HD: option, first year or number of years";
+    case KH_AM004_REFUSED_AREAS: return "PA or DA: total of the areas";
+    case KH_AM004_REFUSED_MATRIX: return "MP: a row does not sum to 1,000,000";
+    case KH_AM004_REFUSED_YEAR: return "YR: not the next year, one more than n, or operating days";
+    case KH_AM004_REFUSED_CONVERSIONS:
+        return "CP or CD: the conversions do not sum to the area at inception, that of PA or of DA";
+    case KH_AM004_REFUSED_ACTIVITY: return "an activity record's field, or the product of VE";
+    case KH_AM004_REFUSED_RECORDS: return "a 61st activity record in one year";
+    case KH_AM004_REFUSED_BUFFER: return "the result buffer is too short";
+    default: return "unknown number";
+    }
+}
 
 /*
  * Reckons a dossier. 0: the report stands at the start of result, and the bytes beyond it are as they were.
  * Otherwise the number of the refusal, and every byte of result is as it was.
  *
- * The caller owes two valid pointers, neither null even where its length is 0: dossier to dossier_len bytes that can be
- * read, result to result_len bytes that can be written, and the two must not overlap. The call keeps neither, needs no
+ * The caller owes valid pointers: dossier to dossier_len bytes that can be read, result to result_len bytes that can be
+ * written, and the two must not overlap. A pointer may be null where its length is 0. The call keeps neither, needs no
  * heap, and may be made from several threads at once.
  *
  * The report is of big-endian 64-bit numbers in two's complement: each year's figures and the total in grams of CO2,

@@ -1,6 +1,6 @@
 /* Compares the proved reckoner with the plain one: the same number and the same bytes on dossiers sound, cut, padded and
- * spoilt; a thread stack of 64 KiB; and, on the longest dossier, no longer a time. The argument is another seed; a second
- * argument leaves the times out. */
+ * spoilt; a thread stack of 64 KiB; and, on the longest dossier, no longer a time. The argument is another seed; a
+ * second one leaves the times out. Where they differ it prints the seed, and target/difference.dossier has the bytes. */
 #define _POSIX_C_SOURCE 200809L
 #include "kh_am004.h"
 #include "plain.h"
@@ -10,9 +10,12 @@
 #include <string.h>
 #include <time.h>
 
+enum { ONE = 1000000, MOST_RECORDS = 4 + 20 * (3 + 61) + 1 };
+
 static uint8_t made[70000], spoilt[70000];
-static size_t length;
-static uint64_t seed = 0x9e3779b97f4a7c15;
+static size_t length, begins[MOST_RECORDS + 1]; /* where each record begins, and where the last one ends */
+static int records_made;
+static uint64_t seed = 0x9e3779b97f4a7c15, given;
 
 static uint64_t draw(uint64_t below)
 {
@@ -22,10 +25,31 @@ static uint64_t draw(uint64_t below)
     return below ? (seed >> 11) % below : 0;
 }
 
-static void fail(const char *what)
+static _Noreturn void fail(const char *what)
 {
-    printf("%s\n", what);
+    printf("%s; seed %llu\n", what, (unsigned long long)given);
     exit(1);
+}
+
+/* Fails with the bytes in a file. */
+static _Noreturn void differ(const uint8_t *s, size_t n, const char *what, uint32_t proved, uint32_t due, size_t room)
+{
+    const char *path = "target/difference.dossier";
+    FILE *file = fopen(path, "wb");
+    int stored = file && fwrite(s, 1, n, file) == n;
+    if (file)
+        fclose(file);
+    printf("%s: proved %u, due %u, buffer of %zu, seed %llu; %s %s\n", what, proved, due, room, (unsigned long long)given, path,
+           stored ? "has the bytes" : "could not be written");
+    exit(1);
+}
+
+static uint64_t number(const uint8_t *s)
+{
+    uint64_t bits = 0;
+    for (int k = 0; k < 8; k++)
+        bits = bits << 8 | s[k];
+    return bits;
 }
 
 static void put(uint64_t value, int bytes)
@@ -36,6 +60,7 @@ static void put(uint64_t value, int bytes)
 
 static void mark(const char *m)
 {
+    begins[records_made++] = length;
     made[length++] = (uint8_t)m[0];
     made[length++] = (uint8_t)m[1];
 }
@@ -50,27 +75,45 @@ static void split(uint64_t total, int count, int bytes)
     }
 }
 
-static void record(int kind)
+/* of each area at most so many millionths turn into another class, mostly into non-forest; the rest stays */
+static void stay_but(const uint64_t *areas, uint64_t most, int bytes)
+{
+    uint64_t cells[144] = { 0 };
+    for (int i = 0; i < 12; i++) {
+        uint64_t turned = areas[i] * draw(most + 1) / ONE;
+        cells[13 * i] += areas[i] - turned;
+        cells[12 * i + (int)(draw(4) ? 11 : draw(12))] += turned;
+    }
+    for (int k = 0; k < 144; k++)
+        put(cells[k], bytes);
+}
+
+static void record(int kind, uint64_t share)
 {
     static const char *marks[4] = { "FU", "VE", "NI", "LI" };
     mark(marks[kind]);
     put(1 + draw(3), 1);
     if (kind == 1) {
-        put(draw(1001), 4);
+        put(draw(1000 / share + 1), 4);
         put(draw(100000), 4);
-        put(draw(10000), 4);
+        put(draw(10000 / share), 4);
     } else if (kind == 2) {
         put(1 + draw(2), 1);
-        put(draw(10000000001), 8);
+        put(draw(10000000000 / share + 1), 8);
         put(draw(10001), 2);
     } else
-        put(draw(1000000000001), 8);
+        put(draw(1000000000000 / share + 1), 8);
 }
 
 static void dossier(int option, int first, int years, int records, int kind)
 {
-    uint64_t start[2] = { 1 + draw(draw(2) ? 100 : 1000000000000), draw(draw(2) ? 100 : 1000000000001) };
+    /* half of them lose little of their forest and have small records, so that totals of either sign come */
+    static const uint64_t losses[4] = { 0, 2000, 50000, 300000 };
+    static const uint64_t ones[12] = { ONE, ONE, ONE, ONE, ONE, ONE, ONE, ONE, ONE, ONE, ONE, ONE };
+    uint64_t keeps = draw(2), most = 1 + draw(4), share = keeps ? 1000 : 1, areas[2][12];
+    uint64_t start[2] = { 1 + draw(!keeps && draw(2) ? 100 : 1000000000000), draw(draw(2) ? 100 : 1000000000001) };
     length = 0;
+    records_made = 0;
     mark("HD");
     put((uint64_t)option, 1);
     put((uint64_t)first, 2);
@@ -78,11 +121,15 @@ static void dossier(int option, int first, int years, int records, int kind)
     for (int r = 0; r < 2; r++) {
         mark(r ? "DA" : "PA");
         split(start[r], 12, 8);
+        for (int i = 0; i < 12; i++)
+            areas[r][i] = number(made + length - 96 + 8 * i);
     }
     if (option == 2) {
         mark("MP");
-        for (int i = 0; i < 12; i++)
-            split(1000000, 12, 4);
+        if (keeps)
+            stay_but(ones, ONE / 10, 4);
+        for (int i = 0; !keeps && i < 12; i++)
+            split(ONE, 12, 4);
     }
     for (int y = 0; y < years; y++) {
         mark("YR");
@@ -90,15 +137,32 @@ static void dossier(int option, int first, int years, int records, int kind)
         put(1 + draw(365), 2);
         for (int r = 0; r < 2; r++) {
             mark(r ? "CD" : "CP");
-            split(start[r], 144, 8);
+            if (keeps)
+                stay_but(areas[r], losses[draw(most)], 8);
+            else
+                split(start[r], 144, 8);
         }
         for (int k = records < 0 ? (int)draw(62) : records; k > 0; k--)
-            record(kind < 0 ? (int)draw(4) : kind);
+            record(kind < 0 ? (int)draw(4) : kind, share);
     }
     mark("EN");
+    begins[records_made] = length;
 }
 
-static unsigned counts[11];
+static unsigned counts[11], positive, of_either_sign;
+
+/* counts the reports with tonnes, and those with years of either sign */
+static void count_signs(const uint8_t *report, size_t n)
+{
+    int above = 0, below = 0;
+    for (size_t y = 0; y < n; y++) {
+        int64_t credited = (int64_t)number(report + KH_AM004_AT_YEAR(y) + KH_AM004_AT_CREDITED);
+        above |= credited > 0;
+        below |= credited < 0;
+    }
+    positive += number(report + KH_AM004_AT_TONNES(n)) > 0;
+    of_either_sign += above && below;
+}
 
 static void same(const uint8_t *s, size_t n, size_t room)
 {
@@ -106,36 +170,41 @@ static void same(const uint8_t *s, size_t n, size_t room)
     for (size_t k = 0; k < sizeof proved; k++)
         proved[k] = plain[k] = (uint8_t)draw(256);
     uint32_t a = kh_am004_reckon(s, n, proved, room), b = plain_reckon(s, n, plain, room);
-    if (a != b || memcmp(proved, plain, sizeof proved)) {
-        printf("they differ: proved %u, plain %u, %zu bytes, buffer %zu\n", a, b, n, room);
-        exit(1);
-    }
+    if (a != b)
+        differ(s, n, "the numbers differ", a, b, room);
+    if (memcmp(proved, plain, sizeof proved))
+        differ(s, n, "the buffers differ", a, b, room);
     counts[a]++;
+    if (a == KH_AM004_ACCEPTED)
+        count_signs(proved, s[5]);
 }
 
 static void spoil(void)
 {
     static const char *marks[10] = { "HD", "PA", "DA", "MP", "YR", "CP", "CD", "FU", "EN", "LI" };
-    size_t n = length;
+    size_t n = length, k;
     memcpy(spoilt, made, n);
-    switch (draw(5)) {
+    switch (draw(8)) {
     case 0: n = draw(n + 1); break;
     case 1: spoilt[n] = (uint8_t)draw(256); n += 1 + draw(8); break;
     case 2: memcpy(spoilt + draw(n - 1), marks[draw(10)], 2); break;
     case 3: spoilt[draw(draw(2) ? 12 : n)] = (uint8_t)draw(256); break;
-    default: memcpy(spoilt + n - 2, marks[draw(10)], 2); n += draw(8); break;
+    case 4: memcpy(spoilt + n - 2, marks[draw(10)], 2); n += draw(8); break;
+    default: /* a record with a wrong byte, and then its end or up to three bytes more */
+        k = draw(2) ? draw((uint64_t)records_made) : draw(8);
+        n = begins[k + 1] + draw(4) * draw(2);
+        if (begins[k + 1] - begins[k] > 2)
+            spoilt[begins[k] + 2 + draw(begins[k + 1] - begins[k] - 2)] = (uint8_t)draw(256);
     }
     same(spoilt, n, draw(2) ? 1312 : draw(1400));
 }
 
-static void expect(uint32_t number, size_t room)
+static void expect(uint32_t due, size_t room)
 {
     static uint8_t result[1312];
     uint32_t answer = kh_am004_reckon(made, length, result, room);
-    if (answer != number) {
-        printf("answered %u where %u is due\n", answer, number);
-        exit(1);
-    }
+    if (answer != due)
+        differ(made, length, "an edge", answer, due, room);
 }
 
 /* document 01's unmarked edges */
@@ -174,11 +243,11 @@ static void long_inputs(void)
             memcpy(spoilt + length + draw(4), marks[draw(8)], 2);
         if (draw(4) == 0)
             spoilt[draw(length)] ^= (uint8_t)draw(256);
-        uint32_t whole = kh_am004_reckon(spoilt, 65537 + draw(4000), result, sizeof result);
-        if (whole == 0 || whole != kh_am004_reckon(spoilt, 65536, result, sizeof result)) {
-            printf("a long input is answered %u\n", whole);
-            exit(1);
-        }
+        size_t n = 65537 + draw(4000);
+        uint32_t whole = kh_am004_reckon(spoilt, n, result, sizeof result);
+        uint32_t first = kh_am004_reckon(spoilt, 65536, result, sizeof result);
+        if (whole == 0 || whole != first)
+            differ(spoilt, n, "a long input and its first 65,536 bytes", whole, first, sizeof result);
     }
 }
 
@@ -218,7 +287,8 @@ static void on_small_stack(void)
 
 int main(int argc, char **argv)
 {
-    seed += argc > 1 ? strtoull(argv[1], NULL, 10) : 0;
+    given = argc > 1 ? strtoull(argv[1], NULL, 10) : 0;
+    seed += given;
     edges();
     long_inputs();
     for (int k = 0; k < 3000; k++) {
@@ -233,10 +303,12 @@ int main(int argc, char **argv)
     printf("same number and same bytes; how often each number came:");
     for (int k = 0; k <= 10; k++)
         printf(" %u", counts[k]);
-    printf("\n");
+    printf("\nof the accepted ones %u had tonnes, %u years of either sign\n", positive, of_either_sign);
     for (int k = 0; k <= 10; k++)
         if (!counts[k])
             fail("not every number came");
+    if (positive < counts[0] / 5 || of_either_sign < counts[0] / 20)
+        fail("too few of the accepted dossiers had tonnes, or years of either sign");
     on_small_stack();
     if (argc > 2) /* bytes only, no times */
         return 0;
@@ -247,5 +319,7 @@ int main(int argc, char **argv)
         plain = b < plain ? b : plain;
     }
     printf("the longest dossier, on a stack of 64 KiB: accepted; best time, proved %.1f us, plain C %.1f us\n", 5e4 * proved, 5e4 * plain);
-    return proved > plain;
+    if (proved > plain)
+        fail("the time comparison fails: the proved reckoner takes longer than plain C");
+    return 0;
 }

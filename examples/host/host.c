@@ -11,32 +11,50 @@ static int64_t number(const uint8_t *report, size_t offset)
     return (int64_t)bits;
 }
 
+static const struct { const char *title; size_t at; } columns[] = {
+    { "reference", KH_AM004_AT_REFERENCE },           { "project", KH_AM004_AT_PROJECT },
+    { "activity", KH_AM004_AT_ACTIVITY },             { "belt", KH_AM004_AT_BELT },
+    { "belt reference", KH_AM004_AT_BELT_REFERENCE }, { "displaced", KH_AM004_AT_DISPLACED },
+    { "reduction", KH_AM004_AT_REDUCTION },           { "credited", KH_AM004_AT_CREDITED },
+};
+
+static void print_titles(void)
+{
+    printf("year");
+    for (size_t k = 0; k < sizeof columns / sizeof *columns; k++)
+        printf(",%s", columns[k].title);
+    printf("\n");
+}
+
 static void print_year(int year, const uint8_t *figures)
 {
     printf("%d", year);
-    for (size_t offset = KH_AM004_REFERENCE; offset <= KH_AM004_CREDITED; offset += 8)
-        printf(",%lld", (long long)number(figures, offset));
+    for (size_t k = 0; k < sizeof columns / sizeof *columns; k++)
+        printf(",%lld", (long long)number(figures, columns[k].at));
     printf("\n");
 }
 
 static void print_report(int first, size_t years, const uint8_t *report)
 {
-    printf("year,reference,project,activity,belt,belt reference,displaced,reduction,credited\n");
+    print_titles();
     for (size_t y = 0; y < years; y++)
-        print_year(first + (int)y, report + KH_AM004_YEAR(y));
-    printf("total,%lld\n", (long long)number(report, KH_AM004_TOTAL(years)));
-    printf("tonnes,%lld\n", (long long)number(report, KH_AM004_TONNES(years)));
-    printf("balance,%lld\n", (long long)number(report, KH_AM004_BALANCE(years)));
-    printf("belt balance,%lld\n", (long long)number(report, KH_AM004_BELT_BALANCE(years)));
+        print_year(first + (int)y, report + KH_AM004_AT_YEAR(y));
+    printf("total,%lld\n", (long long)number(report, KH_AM004_AT_TOTAL(years)));
+    printf("tonnes,%lld\n", (long long)number(report, KH_AM004_AT_TONNES(years)));
+    printf("balance,%lld\n", (long long)number(report, KH_AM004_AT_BALANCE(years)));
+    printf("belt balance,%lld\n", (long long)number(report, KH_AM004_AT_BELT_BALANCE(years)));
 }
 
-/* The first 65,536 bytes of a file, which settle the answer for all of it; -1 where it can't be read. */
+/* These first bytes of a file settle the answer for all of it: the longest dossier has a few less. */
+enum { FIRST_BYTES = 65536 };
+
+/* The first bytes of a file; -1 where it can't be read. */
 static long read_file(const char *path, uint8_t *bytes)
 {
     FILE *file = fopen(path, "rb");
     if (!file)
         return -1;
-    size_t length = fread(bytes, 1, 65536, file);
+    size_t length = fread(bytes, 1, FIRST_BYTES, file);
     int failed = ferror(file);
     fclose(file);
     return failed ? -1 : (long)length;
@@ -44,7 +62,7 @@ static long read_file(const char *path, uint8_t *bytes)
 
 int main(int argc, char **argv)
 {
-    static uint8_t dossier[65536], report[KH_AM004_REPORT(20)];
+    static uint8_t dossier[FIRST_BYTES], report[KH_AM004_LONGEST_REPORT];
     if (argc != 2) {
         fprintf(stderr, "usage: host DOSSIER\n");
         return 2;
@@ -56,7 +74,7 @@ int main(int argc, char **argv)
     }
     uint32_t answer = kh_am004_reckon(dossier, (size_t)length, report, sizeof report);
     if (answer != KH_AM004_ACCEPTED) {
-        fprintf(stderr, "refused %u\n", (unsigned)answer);
+        fprintf(stderr, "refused %u: %s\n", (unsigned)answer, kh_am004_text(answer));
         return 1;
     }
     print_report(dossier[3] << 8 | dossier[4], dossier[5], report);

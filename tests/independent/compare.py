@@ -2,17 +2,22 @@
 """Compares the proved reckoner with the independent one: numbers, every byte of the buffer, sheets, and lists of calls on a ledger.
 
     python3 tests/independent/compare.py LIBRARY YEARSHEET LEDGERTRACE [SEED] [ROUNDS]
+
+Where they differ it prints the seed, and target/difference has the bytes.
 """
 import collections
 import ctypes
+import pathlib
 import random
 import struct
 import subprocess
 import sys
 
 import reckoner
-from dossiers import bare, encode, full, greatest, long, pieces, small, sound, spoiled, typical, ways, zeros
+from dossiers import (END, FIELDS, GREATEST, activity, bare, encode, ending, forest, full, greatest, long, pieces, small, sound, spoiled,
+                      stops, typical, ways, zeros)
 
+ROOT = pathlib.Path(__file__).resolve().parents[2]
 NUMBERS = {"reckon": range(11), "open": range(6), "year": (0, 1, 2, 6, 7, 8, 9), "close": (0, 10)}
 
 
@@ -77,7 +82,7 @@ def on_one_dossier(rng, head, years, others):
 
 def call_list(rng):
     """Calls on some dossiers in turn; now and then an unknown one, too great a length, or a cut."""
-    known = [pieces(sound(rng, rng.choice((small, small, typical, full, bare, long)))) for _ in range(4)]
+    known = [pieces(sound(rng, rng.choice((small, small, typical, forest, full, bare, long)))) for _ in range(4)]
     others = [due for _, years in known for due in years]
     calls = [call for head, years in known for call in on_one_dossier(rng, head, years, others)]
     if rng.random() < 0.2:
@@ -89,19 +94,51 @@ def call_list(rng):
 
 # Comparing
 
+FAULTS = {"HD": 3, "PA": 4, "DA": 4, "MP": 5, "YR": 6, "CP": 7, "CD": 7, "FU": 8, "VE": 8, "NI": 8, "LI": 8}
+# Each fault in the last record, and after each record but EN: nothing, a byte, another mark.
+ENDINGS = {(number, mark, "nothing") for mark, number in FAULTS.items()} | {
+    (number, mark, rest) for mark in FAULTS for number, rest in ((1, "nothing"), (1, "a byte"), (2, "another mark"))}
+
+
+def first_difference(proved, due):
+    """Where two values differ, without the hundreds of kilobytes that they may have."""
+    proved, due = str(proved), str(due)
+    at = next((k for k, pair in enumerate(zip(proved, due)) if pair[0] != pair[1]), min(len(proved), len(due)))
+    start = max(at - 60, 0)
+    return f"from character {at}\nproved: {proved[start:at + 60]!r}\nindependent: {due[start:at + 60]!r}"
+
+
 class Comparison:
     def __init__(self, library, yearsheet, ledgertrace, seed):
         self.call = ctypes.CDLL(library).kh_am004_reckon
         self.call.argtypes, self.call.restype = (ctypes.c_char_p, ctypes.c_size_t, ctypes.c_char_p, ctypes.c_size_t), ctypes.c_uint32
         self.yearsheet, self.ledgertrace, self.seed, self.rng = yearsheet, ledgertrace, seed, random.Random(seed)
         self.seen, self.sheets, self.kinds = {word: collections.Counter() for word in NUMBERS}, 0, collections.Counter()
+        self.endings, self.signs = set(), collections.Counter()
+
+    def fail(self, what, data):
+        path = ROOT / "target" / "difference"
+        path.parent.mkdir(exist_ok=True)
+        path.write_bytes(data)
+        sys.exit(f"{what}\nseed {self.seed}; target/difference has the {len(data)} bytes")
 
     def same(self, what, proved, due, data):
         if proved != due:
-            sys.exit(f"{what} differs, seed {self.seed}\nproved: {proved}\nindependent: {due}\nof the bytes {data.hex()}")
+            self.fail(f"{what} differs {first_difference(proved, due)}", data)
+
+    def independent(self, reckoned, data):
+        """What the independent reckoner makes of the bytes; demand 3 is checked on the way."""
+        try:
+            return reckoned(data)
+        except AssertionError as failed:
+            self.fail(str(failed), data)
 
     def reckoning(self, data, lengths):
-        number, ledger = reckoner.reckon(data, bytearray(1312))
+        number, ledger = self.independent(lambda dossier: reckoner.reckon(dossier, bytearray(1312)), data)
+        self.endings.add((number, *ending(data)))
+        if number == 0:
+            credited = [figures[-1] for figures in ledger.years]
+            self.signs += collections.Counter({"all": 1, "tonnes": ledger.total >= 10**6, "either sign": min(credited) < 0 < max(credited)})
         for room in lengths:
             old = self.rng.randbytes(room + 8)
             proved, due = ctypes.create_string_buffer(old, len(old)), bytearray(old[:room])
@@ -112,7 +149,10 @@ class Comparison:
             self.seen["reckon"][due_number] += 1
 
     def printed(self, program, data):
-        ran = subprocess.run([program], input=data, stdout=subprocess.PIPE)
+        try:
+            ran = subprocess.run([program], input=data, stdout=subprocess.PIPE, timeout=60)
+        except subprocess.TimeoutExpired:
+            self.fail(f"{program} took longer than 60 s", data)
         return ran.stdout.decode("latin-1") + f"ended with {ran.returncode}" * (ran.returncode != 0)
 
     def sheet(self, data):
@@ -133,9 +173,18 @@ class Comparison:
         for way in ways(records):
             self.dossier(spoiled(self.rng, records, way), [self.rng.choice(lengths)], (kind, way))
 
+    def ends(self):
+        """Bytes that end at every kind of place, of a dossier that has a record of each mark."""
+        run = [activity(self.rng, mark=mark) for mark in GREATEST]
+        head, years = pieces(sound(self.rng, lambda rng: small(rng) | dict(option=2, activities=0)))
+        records = head + [record for due in years for record in due + run] + [END]
+        for mark in FIELDS:
+            for data in stops(self.rng, records, mark):
+                self.dossier(data, [1312], stops)
+
     def calls(self):
         calls = call_list(self.rng)
-        due = trace(calls)
+        due = self.independent(trace, calls)
         self.same("the trace of a list of calls", self.printed(self.ledgertrace, calls), due, calls)
         for line in due.splitlines():
             word, number, *_ = line.split()
@@ -143,12 +192,18 @@ class Comparison:
 
     def report(self):
         buffers, *calls = (sum(seen.values()) for seen in self.seen.values())
-        print(f"{sum(self.kinds.values())} dossiers, {buffers} buffers, {self.sheets} sheets and {sum(calls)} calls: all agree")
+        print(f"{sum(self.kinds.values())} dossiers, {buffers} buffers, {self.sheets} sheets and {sum(calls)} calls: all agree, seed {self.seed}")
         for word, numbers in NUMBERS.items():
             print(f"{word}:", ", ".join(f"{number} came {self.seen[word][number]} times" for number in numbers))
+        accepted, tonnes, either = (self.signs[name] for name in ("all", "tonnes", "either sign"))
+        print(f"of {accepted} accepted dossiers {tonnes} had tonnes, {either} years of either sign; {len(self.endings)} kinds of ending")
         for word, numbers in NUMBERS.items():
             if set(numbers) != set(self.seen[word]):
-                sys.exit(f"{word}: numbers {sorted(self.seen[word])} came, not {list(numbers)}")
+                sys.exit(f"{word}: numbers {sorted(self.seen[word])} came, not {list(numbers)}; seed {self.seed}")
+        if tonnes < accepted / 7 or either < accepted / 10:
+            sys.exit(f"too few accepted dossiers had tonnes, or years of either sign; seed {self.seed}")
+        if not ENDINGS <= self.endings:
+            sys.exit(f"these endings never came: {sorted(ENDINGS - self.endings)}; seed {self.seed}")
 
 
 def main():
@@ -158,8 +213,9 @@ def main():
     seed, rounds = map(int, given + ["4", "30"][len(given):])
     comparison = Comparison(library, yearsheet, ledgertrace, seed)
     for k in range(rounds):
-        for kind in (small, typical, full, bare, *((zeros, long, greatest) if k % 4 == 0 else ())):
+        for kind in (small, forest, typical, forest, full, bare, *((zeros, long, greatest) if k % 4 == 0 else ())):
             comparison.dossiers(kind)
+        comparison.ends()
         for _ in range(3):
             comparison.calls()
     comparison.report()

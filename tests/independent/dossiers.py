@@ -103,6 +103,13 @@ def greatest(rng):
     return dict(option=2, first=2200, n=20, project=LIMIT, belt=LIMIT, activities=60, cells=1, amount=max)
 
 
+def forest(rng):
+    """Areas that mostly stay, as an owner's do: totals of either sign, and years of either sign in one dossier."""
+    return dict(n=rng.choice((1, 2, 5, 20)), project=rng.randint(10**8, LIMIT), belt=rng.choice((0, rng.randint(1, LIMIT))),
+                activities=rng.choice((0, 1, 5, 60)), amount=lambda amounts: rng.randint(0, min(amounts[1], 1000)),
+                lost=rng.choice(((0,), (0, 100, 2000), (2000, 300000), (0, 300000, 900000))))
+
+
 def parts(rng, total, count, cells):
     """Numbers that add up to a total, at most so many cells of them not zero."""
     numbers = [0] * count
@@ -117,9 +124,9 @@ def any_amount(amounts, rng):
     return rng.choice((*amounts, rng.randint(*amounts), rng.randint(*amounts), 1 if amounts[1] else 0))
 
 
-def activity(rng, amount=None):
+def activity(rng, amount=None, mark=None):
     """A record in range; amount picks each quantity from the least and the greatest that it may be."""
-    mark = rng.choice(list(GREATEST))
+    mark = mark or rng.choice(list(GREATEST))
     kinds, amounts = (2, 2) if mark == "NI" else (1, len(GREATEST[mark]) - 1)
     fields = [rng.randint(1, top) for top in GREATEST[mark][:kinds]] + GREATEST[mark][kinds:]
     product = 1
@@ -130,17 +137,31 @@ def activity(rng, amount=None):
     return mark, fields
 
 
-def made(rng, n, project, belt, activities, option=None, first=None, cells=None, amount=None):
+def stay_but(rng, units, most):
+    """The table in which of each area at most so many millionths turn into another class, most of them into NF."""
+    cells = []
+    for c, area in zip(CLASSES, units):
+        turned = area * rng.randint(0, most) // 1000000
+        cells += [(c, c, area - turned), (c, rng.choice(("NF", "NF", "NF", *CLASSES)), turned)]
+    return table(*cells)
+
+
+def made(rng, n, project, belt, activities, option=None, first=None, cells=None, amount=None, lost=None):
+    """lost is what a year's tables lose, in millionths, one of these in each year; without it the tables are at random."""
     def spread(total, count):
         return parts(rng, total, count, cells or rng.choice((1, 3, count)))
 
+    def tables(areas):
+        return stay_but(rng, areas, rng.choice(lost)) if lost else spread(sum(areas), 144)
+
     first = first or rng.choice((2000, 2096, 2100, 2200, rng.randint(2000, 2200)))
-    rows = [p for _ in CLASSES for p in spread(1000000, 12)]
-    records = opening(option or rng.randint(1, 2), first, n, spread(project, 12), spread(belt, 12), rows)
+    rows = stay_but(rng, [1000000] * 12, 100000) if lost else [p for _ in CLASSES for p in spread(1000000, 12)]
+    regions = spread(project, 12), spread(belt, 12)
+    records = opening(option or rng.randint(1, 2), first, n, *regions, rows)
     for number in range(first, first + n):
-        days = days_of(number) if amount else rng.choice((1, days_of(number), rng.randint(1, 365)))
+        days = days_of(number) if amount and not lost else rng.choice((1, days_of(number), rng.randint(1, 365)))
         run = [activity(rng, amount) for _ in range(activities)]
-        records += year(number, days, spread(project, 144), spread(belt, 144), *run)
+        records += year(number, days, *map(tables, regions), *run)
     return records + [END]
 
 
@@ -234,6 +255,22 @@ def cut(rng, records):
     return encode(records)[:rng.choice((start, start + 1, min(start + 2, end - 1), end - 1, rng.randrange(start, end)))]
 
 
+def stopped(rng, records, marks=WITH_FIELDS):
+    """A change in the fields of a record of these marks, and the bytes end with it, or up to three bytes after it."""
+    k = pick(rng, records, marks)
+    way = rng.choice([way for way in FIELD_WAYS if records[k][0] in RECORD_WAYS[way]])
+    return encode(records[:k] + way(rng, [records[k]])) + encode(records[k + 1:k + 2])[:rng.choice((0, 0, 0, 1, 2, 3))]
+
+
+def stops(rng, records, mark):
+    """Bytes that end with a record of this mark, sound or not, with a byte after it, with another mark, or inside it."""
+    k = pick(rng, records, [mark])
+    head, end = encode(records[:k + 1]), places(records)[k + 1]
+    whole = [stopped(rng, records, [mark])] if FIELDS[mark] else []
+    inside = head[:rng.randrange(places(records)[k] + 1, end)]
+    return [*whole, head, head + rng.randbytes(1), head + rng.choice((*FIELDS, "??")).encode(), inside]
+
+
 def cut_crowd(rng, records):
     """A 61st activity record of which little more than the mark is there."""
     crowd = records[:pick(rng, records, ["CD"]) + 1] + [activity(rng) for _ in range(61)]
@@ -267,7 +304,8 @@ def two_faults(rng, records):
 
 RECORD_WAYS = {off_by_one: WITH_FIELDS, wrapped: SUMS, head_edge: ["HD"], year_edge: ["YR"], activity_edge: GREATEST, product_edge: ["VE"],
                misplaced: FIELDS, other_years: ["YR"], crowded: ["CD"]}
-BYTE_WAYS = {cut: FIELDS, cut_crowd: ["CD"], padded: FIELDS, flipped: FIELDS, other_mark: FIELDS, two_faults: FIELDS}
+FIELD_WAYS = (off_by_one, wrapped, head_edge, year_edge, activity_edge, product_edge)
+BYTE_WAYS = {cut: FIELDS, stopped: FIELDS, cut_crowd: ["CD"], padded: FIELDS, flipped: FIELDS, other_mark: FIELDS, two_faults: FIELDS}
 
 
 def ways(records):
@@ -278,3 +316,23 @@ def ways(records):
 
 def spoiled(rng, records, way):
     return encode(way(rng, records)) if way in RECORD_WAYS else way(rng, records)
+
+
+# Where bytes end
+
+def boundaries(data):
+    """Where each record ends that the bytes hold whole, with its mark, up to what is no record."""
+    at = 0
+    while (mark := data[at:at + 2].decode("latin-1")) in FIELDS:
+        at += 2 + struct.calcsize(">" + FIELDS[mark])
+        if at > len(data):
+            return
+        yield at, mark
+
+
+def ending(data):
+    """The last record that the bytes hold whole, or "none", and what stands after it: nothing, a byte, another mark, or a part of a record."""
+    at, last = max(boundaries(data), default=(0, "none"))
+    mark = data[at:at + 2].decode("latin-1")
+    rest = f"a part of {mark}" if mark in FIELDS else "another mark"
+    return last, ("nothing", "a byte", rest)[len(mark)]

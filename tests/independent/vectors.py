@@ -3,16 +3,19 @@
 
     python3 tests/independent/vectors.py            writes stdin and stdout of crates/vectors and crates/ledgertrace
     python3 tests/independent/vectors.py --check    fails where a stored file is another
+    python3 tests/independent/vectors.py --library LIBRARY    tries the stored vectors of crates/vectors on the call for C
 
 A vector is a label, a dossier and the length of a buffer filled with 165. Each states here its number, and the figures that tell.
 """
+import ctypes
 import pathlib
 import struct
 import sys
 
 import reckoner
 from compare import closing, lent, trace
-from dossiers import END, FIELDS, GREATEST, LIMIT, areas, case_a, changed, encode, matrix, opening, pieces, places, stays, table, year
+from dossiers import (END, FIELDS, GREATEST, LIMIT, areas, boundaries, case_a, changed, encode, matrix, opening, pieces, places, stays,
+                      table, year)
 
 ROOT = pathlib.Path(__file__).resolve().parents[2]
 FIGURES = "reference project activity belt belt_reference displaced reduction credited total tonnes balance belt_balance".split()
@@ -127,7 +130,7 @@ def longest():
     for y in range(20):
         lost = table(("SE", "NF", LIMIT - y), ("SE", "SE", y))
         records += year(2200 + y, reckoner.days_of(2200 + y), lost, lost, *[("VE", [1, 1000, 10000, 100000])] * 60)
-    assert len(encode(records + [END])) == 65062
+    require(len(encode(records + [END])) == 65062, "the longest dossier has not 65,062 bytes")
     return accepted("n 20, the longest dossier", records + [END])
 
 
@@ -399,6 +402,61 @@ def projections():
     yield accepted("project and belt by the same matrix", records, reference=334766666, belt_reference=0)
 
 
+# Where the bytes end
+
+def record_ends():
+    """Each wrong field of the vectors above, where the bytes end with its record: the number is the same."""
+    above = [vector for section in VECTORS[:VECTORS.index(record_ends)] for vector in section()]
+    seen = {data for _, _, data, _, _ in above}
+    for label, number, data, room, _ in above:
+        if number in range(3, 9):
+            short = next(data[:end] for end, _ in boundaries(data) if reckoner.reckon(data[:end], bytearray(room))[0] == number)
+            if short not in seen:
+                seen.add(short)
+                yield refused(number, f"{label}, and no byte more", short)
+
+
+def calendar():
+    """The last day of a year and the day after it, in every year that a dossier can begin with, and in some that follow 2200."""
+    for first in range(2000, 2201):
+        days = reckoner.days_of(first)
+        yield refused(1, f"d {days} of {first}, and no byte more", emitting(first=first, days=days)[:4])
+        yield refused(6, f"d {days + 1} of {first}, and no byte more", emitting(first=first, days=days + 1)[:4])
+    for later in (2201, 2202, 2203, 2204, 2208, 2219):
+        n = later - 2199
+        days = [reckoner.days_of(2200 + y) for y in range(n)]
+        records = years_of(1, 2200, n, areas(NF=1), areas(), (table(("NF", "NF", 1)), table()), days=(*days[:-1], days[-1] + 1))
+        yield refused(6, f"d {days[-1] + 1} of {later}, as year {n}", records[:3 * n + 1])
+    vast = areas(E=10**9)
+    for first in (2000, 2001, 2002, 2003, 2004, 2096, 2100, 2104, 2200):
+        days, one = (366, 22775109) if first in (2000, 2004, 2096, 2104) else (365, 22837506)
+        for d, grams in ((1, one), (days, 8335690000)):
+            records = one_year(1, vast, vast, stays(vast), stays(vast), first=first, days=d)
+            yield accepted(f"d {d} of {days} in {first}", records, reference=grams, belt_reference=grams)
+
+
+def last_marks():
+    """Another mark, and nothing after it, at the places that are left."""
+    one, two, run = base(), base(n=2), [*GREATEST, "YR", "EN"]
+    full = emitting(*[RUN[k % 4] for k in range(60)])
+    spots = [("after HD, Option 2", before(base(2), "PA"), ["PA"]), ("after PA, Option 2", before(base(2), "DA"), ["DA"])]
+    spots += [(f"after {mark}", before(one, after), run) for mark, after in (("FU", "VE"), ("VE", "NI"), ("NI", "LI"), ("LI", "EN"))]
+    spots += [("after 60 records", encode(full[:-1]), run), ("after the first of two years", before(two, "YR", 1), run[:-1]),
+              ("after the second YR", before(two, "CP", 1), ["CP"]), ("after the second CP", before(two, "CD", 1), ["CD"]),
+              ("after the second CD", before(two, "FU", 1), run), ("after EN", encode(one), [])]
+    known = {label for section in (marks, endings) for label, *_ in section()}
+    for place, data, due in spots:
+        for mark in [mark for mark in (*FIELDS, "??") if mark not in due and f"{mark} {place}" not in known]:
+            yield refused(2, f"{mark} {place}" + (", two bytes" if place == "after EN" else ""), data + mark.encode())
+
+
+def full_buffers():
+    twenty = base(n=20, run=[])
+    yield accepted("buffer 1312 of 1312", twenty)
+    for room in (1280, 1311):
+        yield refused(10, f"buffer {room} of 1312", twenty, room)
+
+
 # The calls on a ledger, each with its number
 
 def opens(number, data):
@@ -461,21 +519,96 @@ def opened_again():
     yield from (gives(0, dues[0]), gives(0, dues[1]), closes(0, 160), opens(1, head[:-1]), closes(0, 32), gives(6, dues[0]), closes(0, 32))
 
 
+# The calls that every vector's dossier makes
+
+def cut_up(data):
+    """The opening and the years of a dossier's bytes: a piece begins with each YR that is due, and a last EN after a year is left out."""
+    starts, whole, due = [0], data, {"DA": data[2:3] != b"\2", "MP": data[2:3] == b"\2"} | dict.fromkeys(("CD", *GREATEST), True)
+    for end, mark in boundaries(data):
+        if due.get(mark) and data[end:end + 2] == b"YR":
+            starts.append(end)
+        if mark in ("CD", *GREATEST) and data[end:] == b"EN":
+            whole = data[:end]
+    return [whole[a:b] for a, b in zip(starts, [*starts[1:], len(whole)])]
+
+
+def paths():
+    """The pieces of each dossier that are accepted, and the first one that is refused with its number, if one is."""
+    for label, due, data, _, _ in (vector for section in VECTORS for vector in section()):
+        ledger, taken = reckoner.Ledger(), []
+        for piece in cut_up(data):
+            number = ledger.year(piece) if taken else ledger.open(piece)
+            if number:
+                require(number == due, f"{label}: a piece of it is answered {number} where {due} is due")
+                yield taken, (number, piece)
+                break
+            taken.append(piece)
+        else:
+            require(due in (0, 10) or (due == 1 or data.endswith(b"EN")) and len(ledger.years) <= ledger.n, f"{label}: no piece is refused")
+            yield taken, None
+
+
+def after(taken, number, piece):
+    """A piece given after so many others, and what closing gives then."""
+    room = 64 * (taken + (number == 0) - 1) + 32 if taken or number == 0 else 32
+    yield gives(number, piece) if taken else opens(number, piece)
+    yield closes(0, room)
+    if number == 0:
+        yield closes(10, room - 1)
+
+
+def every_dossier():
+    """The opening and the years of every vector, a closing after each; what is refused at one place is tried there on one ledger."""
+    wrong, sound = {}, {}
+    for taken, fault in paths():
+        sound[tuple(taken)] = True
+        if fault:
+            wrong.setdefault(tuple(taken), {})[fault[1]] = fault[0]
+    tried = set()
+    for path in [path for path in sound if not any(len(other) > len(path) and other[:len(path)] == path for other in sound)]:
+        for k in range(len(path) + 1):
+            if path[:k] not in tried:
+                tried.add(path[:k])
+                for piece, number in wrong.get(path[:k], {}).items():
+                    yield from after(k, number, piece)
+            if k < len(path):
+                yield from after(k, 0, path[k])
+
+
+def second_years():
+    """A second year cut inside each of its records, and at the end of each."""
+    head, (first, second) = pieces(base(2, 2))
+    yield from (opens(0, head), gives(0, first))
+    data, spots = encode(second), places(second)
+    for k, (mark, _) in enumerate(second):
+        for at in (spots[k] + 1, spots[k] + 2, spots[k] + 3, spots[k + 1] - 1):
+            yield from (gives(1, data[:at]), closes(0, 96))
+        if mark in ("YR", "CP"):
+            yield from (gives(1, data[:spots[k + 1]]), closes(0, 96))
+        else:
+            yield from (gives(0, data[:spots[k + 1]]), closes(0, 160), closes(10, 159), gives(6, data), opens(0, head), gives(0, first))
+
+
 # Writing
 
 VECTORS = (examples, edges, cuts, marks, heads, totals, rows, years, conversions, activities, kinds, sixty, endings, orders, buffers,
-           slips, roundings, every_class, projections)
-CALLS = (empty_ledger, refused_openings, case_a_ledger, three_years, opened_again)
+           slips, roundings, every_class, projections, record_ends, calendar, last_marks, full_buffers)
+CALLS = (empty_ledger, refused_openings, case_a_ledger, three_years, opened_again, every_dossier, second_years)
+
+
+def require(holds, what):
+    if not holds:
+        sys.exit(what)
 
 
 def line(label, due, data, room, figures):
     """The vector's line, which has the number and the figures stated of the last year."""
     buffer = bytearray([165] * room)
     number, ledger = reckoner.reckon(data, buffer)
-    assert number == due, f"{label}: {number} where {due} is due"
+    require(number == due, f"{label}: {number} where {due} is due")
     found = dict(zip(FIGURES, ledger.numbers()[-12:]))
     for name, figure in figures.items():
-        assert found[name] == figure, f"{label}: {name} {found[name]} where {figure} is due"
+        require(found[name] == figure, f"{label}: {name} {found[name]} where {figure} is due")
     words = struct.unpack_from(f">{room // 8}q", buffer) if number == 0 else ()
     return " ".join(map(str, (label, number, *words))) + "\n"
 
@@ -487,7 +620,8 @@ def sized(data):
 def vector_files():
     vectors = [vector for section in VECTORS for vector in section()]
     labels = [label for label, *_ in vectors]
-    assert len(labels) == len(set(labels)) and max(map(len, labels)) <= 100, [label for label in labels if labels.count(label) > 1]
+    require(len(labels) == len(set(labels)), f"twice: {[label for label in labels if labels.count(label) > 1]}")
+    require(max(map(len, labels)) <= 100, "a label has more than 100 bytes")
     data = b"".join(sized(label.encode("ascii")) + sized(dossier) + struct.pack(">I", room) for label, _, dossier, room, _ in vectors)
     return data, "".join(line(*vector) for vector in vectors).encode()
 
@@ -496,11 +630,50 @@ def call_files():
     calls = [call for section in CALLS for call in section()]
     data = b"".join(call for _, call in calls)
     text = trace(data)
-    assert [int(answer.split()[1]) for answer in text.splitlines()] == [number for number, _ in calls]
+    answers = [int(answer.split()[1]) for answer in text.splitlines()]
+    for k, (number, _) in enumerate(calls):
+        require(k < len(answers) and answers[k] == number, f"call {k} is answered {answers[k:k + 1]} where {number} is due")
     return data + lent(b"Y", encode(base()))[:-1], text.encode()
 
 
+def stored_vectors():
+    """The vectors of crates/vectors/stdin, each with its line of stdout."""
+    data, at, lines = (ROOT / "crates/vectors/stdin").read_bytes(), 0, (ROOT / "crates/vectors/stdout").read_text().splitlines()
+
+    def length():
+        nonlocal at
+        at += 4
+        return int.from_bytes(data[at - 4:at], "big")
+
+    def piece():
+        nonlocal at
+        n = length()
+        at += n
+        return data[at - n:at]
+
+    for due in lines:
+        yield piece().decode("ascii"), piece(), length(), due
+    require(at == len(data), "crates/vectors/stdout has not a line for each vector")
+
+
+def try_library(path):
+    """Each stored vector by the call for C: the line due, and after a refusal the buffer as it was."""
+    call, tried = ctypes.CDLL(path).kh_am004_reckon, 0
+    call.argtypes, call.restype = (ctypes.c_char_p, ctypes.c_size_t, ctypes.c_char_p, ctypes.c_size_t), ctypes.c_uint32
+    for label, dossier, room, due in stored_vectors():
+        old = bytes([165] * (room + 8))
+        buffer = ctypes.create_string_buffer(old, len(old))
+        number = call(dossier, len(dossier), buffer, room)
+        words = struct.unpack_from(f">{room // 8}q", buffer.raw) if number == 0 else ()
+        require(" ".join(map(str, (label, number, *words))) == due, f"{label}: the call for C answers {number}, or other figures, where '{due[:80]}' is due")
+        require(buffer.raw[0 if number else room:] == old[0 if number else room:], f"{label}: the call for C changed bytes that it should leave")
+        tried += 1
+    print(f"the call for C answers each of the {tried} stored vectors as is due")
+
+
 def main():
+    if sys.argv[1:2] == ["--library"] and len(sys.argv) == 3:
+        return try_library(sys.argv[2])
     if sys.argv[1:] not in ([], ["--check"]):
         sys.exit(__doc__)
     for name, contents in (("vectors", vector_files()), ("ledgertrace", call_files())):

@@ -1,0 +1,162 @@
+/* Tests the header: each figure by its name, each refusal by its name, the lengths, and null where a length is 0.
+ *
+ *     header FIGURES.dossier FIGURES.txt CASE-A.dossier     made by tests/independent/figures.py, and case A
+ *     header numbers                                        prints each number with its text
+ */
+#include "kh_am004.h"
+#include <stdio.h>
+#include <stdlib.h>
+#include <string.h>
+
+static const struct { const char *name; size_t at; } figures[] = {
+    { "reference", KH_AM004_AT_REFERENCE },           { "project", KH_AM004_AT_PROJECT },
+    { "activity", KH_AM004_AT_ACTIVITY },             { "belt", KH_AM004_AT_BELT },
+    { "belt_reference", KH_AM004_AT_BELT_REFERENCE }, { "displaced", KH_AM004_AT_DISPLACED },
+    { "reduction", KH_AM004_AT_REDUCTION },           { "credited", KH_AM004_AT_CREDITED },
+};
+
+static _Noreturn void fail(const char *what, long long found, long long due)
+{
+    printf("the header: %s is %lld where %lld is due\n", what, found, due);
+    exit(1);
+}
+
+static void expect(const char *what, long long found, long long due)
+{
+    if (found != due)
+        fail(what, found, due);
+}
+
+static size_t load(const char *path, uint8_t *bytes, size_t most)
+{
+    FILE *file = fopen(path, "rb");
+    if (!file) {
+        perror(path);
+        exit(1);
+    }
+    size_t length = fread(bytes, 1, most, file);
+    fclose(file);
+    return length;
+}
+
+static int64_t number(const uint8_t *report, size_t at)
+{
+    uint64_t bits = 0;
+    for (size_t k = 0; k < 8; k++)
+        bits = bits << 8 | report[at + k];
+    return (int64_t)bits;
+}
+
+/* Where the header has a figure of year y, or one of the four after the last of y years. */
+static size_t place(const char *name, size_t y)
+{
+    for (size_t k = 0; k < sizeof figures / sizeof *figures; k++)
+        if (strcmp(name, figures[k].name) == 0)
+            return KH_AM004_AT_YEAR(y) + figures[k].at;
+    if (strcmp(name, "total") == 0)
+        return KH_AM004_AT_TOTAL(y);
+    if (strcmp(name, "tonnes") == 0)
+        return KH_AM004_AT_TONNES(y);
+    if (strcmp(name, "balance") == 0)
+        return KH_AM004_AT_BALANCE(y);
+    if (strcmp(name, "belt_balance") == 0)
+        return KH_AM004_AT_BELT_BALANCE(y);
+    printf("the header has no %s\n", name);
+    exit(1);
+}
+
+static void test_figures(const char *path, const uint8_t *report)
+{
+    char name[32];
+    unsigned y;
+    long long due;
+    int lines = 0;
+    FILE *file = fopen(path, "r");
+    while (file && fscanf(file, "%31s %u %lld", name, &y, &due) == 3) {
+        expect(name, number(report, place(name, y)), due);
+        lines++;
+    }
+    expect("the number of figures", lines, 8 * KH_AM004_MOST_YEARS + 4);
+    fclose(file);
+}
+
+/* The longest dossier, whose report just fits. */
+static void test_longest(const uint8_t *dossier, size_t length, const char *path)
+{
+    static uint8_t report[KH_AM004_LONGEST_REPORT];
+    expect("the longest dossier", KH_AM004_LONGEST_DOSSIER, (long long)length);
+    expect("the longest report", KH_AM004_LONGEST_REPORT, KH_AM004_REPORT_BYTES(KH_AM004_MOST_YEARS));
+    expect("a report one byte short", kh_am004_reckon(dossier, length, report, sizeof report - 1), KH_AM004_REFUSED_BUFFER);
+    expect("the longest dossier's answer", kh_am004_reckon(dossier, length, report, sizeof report), KH_AM004_ACCEPTED);
+    test_figures(path, report);
+}
+
+static void refused(const char *fault, uint32_t due, const uint8_t *dossier, size_t length, size_t room)
+{
+    uint8_t report[KH_AM004_REPORT_BYTES(1)], old[sizeof report];
+    memset(report, 165, sizeof report);
+    memcpy(old, report, sizeof report);
+    expect(fault, kh_am004_reckon(dossier, length, report, room), due);
+    expect("a buffer after a refusal", memcmp(report, old, sizeof report), 0);
+}
+
+/* Case A with a byte replaced. */
+static void spoilt(const char *fault, uint32_t due, const uint8_t *sound, size_t length, size_t at, uint8_t byte)
+{
+    static uint8_t dossier[KH_AM004_LONGEST_DOSSIER];
+    memcpy(dossier, sound, length);
+    dossier[at] = byte;
+    refused(fault, due, dossier, length, KH_AM004_REPORT_BYTES(1));
+}
+
+static void test_refusals(const uint8_t *a, size_t length, const uint8_t *matrix, size_t matrix_length)
+{
+    static uint8_t more[8192];
+    size_t room = KH_AM004_REPORT_BYTES(1), fuel = length - 13;
+    refused("EN cut", KH_AM004_REFUSED_BYTES_END, a, length - 1, room);
+    memcpy(more, a, length);
+    refused("a byte after EN", KH_AM004_REFUSED_MARK, more, length + 1, room);
+    spoilt("21 years", KH_AM004_REFUSED_HEAD, a, length, 5, 21);
+    spoilt("an area of 2^63", KH_AM004_REFUSED_AREAS, a, length, 8, 128);
+    spoilt("a probability one more", KH_AM004_REFUSED_MATRIX, matrix, matrix_length, 207, (uint8_t)(matrix[207] + 1));
+    spoilt("367 days", KH_AM004_REFUSED_YEAR, a, length, 207, 367 & 255);
+    spoilt("a conversion one more", KH_AM004_REFUSED_CONVERSIONS, a, length, 217, (uint8_t)(a[217] + 1));
+    spoilt("fuel of kind 4", KH_AM004_REFUSED_ACTIVITY, a, length, fuel + 2, 4);
+    for (size_t k = 1; k <= 60; k++)
+        memcpy(more + fuel + 11 * k, a + fuel, 13);
+    refused("61 records", KH_AM004_REFUSED_RECORDS, more, length + 11 * 60, room);
+    refused("a report one byte short", KH_AM004_REFUSED_BUFFER, a, length, room - 1);
+}
+
+static void test_null(const uint8_t *a, size_t length)
+{
+    uint8_t report[KH_AM004_REPORT_BYTES(1)];
+    expect("no dossier", kh_am004_reckon(NULL, 0, report, sizeof report), KH_AM004_REFUSED_BYTES_END);
+    expect("no buffer", kh_am004_reckon(a, length, NULL, 0), KH_AM004_REFUSED_BUFFER);
+    expect("neither", kh_am004_reckon(NULL, 0, NULL, 0), KH_AM004_REFUSED_BYTES_END);
+    expect("no buffer for a cut dossier", kh_am004_reckon(a, length - 1, NULL, 0), KH_AM004_REFUSED_BYTES_END);
+}
+
+static void print_numbers(void)
+{
+    for (uint32_t n = KH_AM004_ACCEPTED; strcmp(kh_am004_text(n), "unknown number"); n++)
+        printf("%u %s\n", (unsigned)n, kh_am004_text(n));
+    printf("version %d.%d\n", KH_AM004_VERSION_MAJOR, KH_AM004_VERSION_MINOR);
+}
+
+int main(int argc, char **argv)
+{
+    static uint8_t longest[70000], a[8192];
+    if (argc == 2 && strcmp(argv[1], "numbers") == 0) {
+        print_numbers();
+        return 0;
+    }
+    if (argc != 4)
+        return 2;
+    size_t length = load(argv[1], longest, sizeof longest), a_length = load(argv[3], a, sizeof a);
+    test_longest(longest, length, argv[2]);
+    test_refusals(a, a_length, longest, length);
+    test_null(a, a_length);
+    printf("the header: each figure of twenty years, each refusal and null, by their names\n");
+    return 0;
+}
