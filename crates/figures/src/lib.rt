@@ -1,4 +1,4 @@
-// The figures of a year.
+// The tables of factors, and the figures of a year.
 use classes::CarbonUnits;
 use classes::Grams;
 ghost use mathlib.Core.Path.{_≡_};
