@@ -1,4 +1,4 @@
-// The figures of a year.
+// The tables of factors, and the figures of a year; the values that an opening settles and that years change.
 use classes::AreaUnits;
 use classes::CarbonUnits;
 use classes::Grams;

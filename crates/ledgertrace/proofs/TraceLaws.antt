@@ -14,7 +14,7 @@ use Rattle.dossier.specs.Judging.{openingPiece, yearPiece}
 use Rattle.reckoner.specs.declared.Ledger.{Ledger}
 use Rattle.reckoner.specs.declared.Answer.{Answer}
 use Rattle.reckoner.specs.declared.Step.{Step}
-use Rattle.reckoner.specs.Ledger.{emptyLedger, openedLedger, openedWith, dueOf, givenYear}
+use Rattle.reckoner.specs.Ledger.{emptyLedger, openedLedger, newLedger, dueOf, givenYear}
 use Rattle.reckoner.specs.Calls.{openJudged, openCall, yearJudged, yearCall, closeCall, HandedBack, given}
 use Rattle.reckoner.proofs.Invariant.{handed-kept}
 
@@ -25,7 +25,7 @@ pub at-most-twenty : {l : Ledger} → HandedBack l → l .given ≤ 20
 at-most-twenty h = let k = handed-kept h in omega (arith, k .count)
 
 pub opened-none : (s : List ℕ) (r : Step) → r ≡ openCall s → r .ledger .given ≡ 0
-unfolding openCall emptyLedger openedLedger openedWith
+unfolding openCall emptyLedger openedLedger newLedger
 opened-none s r h = rw h (go (openingPiece s))
   where
     go : (j : Judged Opening) → openJudged j .ledger .given ≡ 0
