@@ -6,9 +6,15 @@ use Rattle.arithmetic.proofs.NearLaws.{near-≤ᶠ, near-gap}
 use Rattle.classes.specs.Classes.{greatestStock}
 use Rattle.figures.specs.declared.State.{State}
 use Rattle.assurance.specs.Unrounded.{Unrounded}
-use Rattle.assurance.specs.Assurance.{Assured}
+use Rattle.assurance.specs.Assurance.{RegionAssured, TotalAssured}
 use Rattle.assurance.proofs.RegionLaws.{follows-assured}
 use Rattle.assurance.proofs.YearLaws.{Reckoned}
+
+-- of a state and the unrounded one beside it
+pub record Assured (n m projectStart beltStart : ℕ) (s : State) (u : Unrounded) : Type 0 where
+  pub project : RegionAssured n projectStart (s .project .areas) (s .project .balance .0) (u .project)
+  pub belt : RegionAssured n beltStart (s .belt .areas) (s .belt .balance .0) (u .belt)
+  pub total : TotalAssured n m (s .total .0) (u .total)
 
 pub reckoned-assured : (n m projectStart beltStart : ℕ) (r : State) (u : Unrounded) → Reckoned greatestStock n m projectStart beltStart r u → Assured n m projectStart beltStart r u
 reckoned-assured n m projectStart beltStart r u s = record {

@@ -8,8 +8,6 @@ use Rattle.arithmetic.specs.Fraction.{Fraction, _≤ᶠ_, _<ᶠ_, whole, _-ᶠ_
 use Rattle.classes.specs.declared.AreaUnits.{AreaUnits}
 use Rattle.classes.specs.Classes.{classes}
 use Rattle.projection.specs.Projection.{area, areaTotal}
-use Rattle.figures.specs.declared.State.{State}
-use Rattle.assurance.specs.Unrounded.{Unrounded}
 
 -- of project area and belt alike, after y accepted years from a starting area: the twelve projected areas and the balance make up the starting
 -- area exactly; no projected area exceeds its unrounded one; the balance is at most 132 × y
@@ -27,8 +25,3 @@ pub record TotalAssured (n m : ℕ) (total : ℤ) (unrounded : Fraction) : Type 
   pub never-more : whole total ≤ᶠ unrounded
   pub gap : 0 < n → (unrounded -ᶠ whole total) ×ᶠ 5 <ᶠ whole (pos (gapBound n m))
   pub none : n ≡ 0 → (total ≡ pos 0) × (unrounded ≡ whole (pos 0))
-
-pub record Assured (n m projectStart beltStart : ℕ) (s : State) (u : Unrounded) : Type 0 where
-  pub project : RegionAssured n projectStart (s .project .areas) (s .project .balance .0) (u .project)
-  pub belt : RegionAssured n beltStart (s .belt .areas) (s .belt .balance .0) (u .belt)
-  pub total : TotalAssured n m (s .total .0) (u .total)

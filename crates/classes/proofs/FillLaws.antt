@@ -9,7 +9,8 @@ use lib.Seq.{sets}
 use Rattle.arithmetic.specs.Sum.{listed}
 use Rattle.arithmetic.proofs.SumLaws.{length-listed, listed-cong}
 use Rattle.arithmetic.proofs.StoreLaws.{entries-stored, entry-stored, all-stored}
-use Rattle.classes.specs.Matrix.{tableOf, withRow}
+use Rattle.classes.specs.Matrix.{tableOf}
+use Rattle.classes.specs.Rows.{withRow}
 
 -- the table l with the first j entries of row i, or with the first i rows
 abbrev pub rowTo : ℕ → (ℕ → ℕ → ℕ) → List ℕ → ℕ → List ℕ

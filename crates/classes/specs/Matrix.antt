@@ -6,7 +6,6 @@ use mathlib.Core.Bool.{cond}
 use mathlib.Core.List.{List}
 use lib.Dec.{eqb}
 use lib.ListN.{getD}
-use lib.Seq.{sets}
 use Rattle.arithmetic.specs.Sum.{sum, listed}
 use Rattle.classes.specs.Classes.{classes, NF, deforestationProbabilities}
 
@@ -17,10 +16,6 @@ entry table i j = getD table (12 * i + j) 0
 -- the table of f i j: the one at place k stands in row k / 12 and column k % 12
 abbrev pub tableOf : (ℕ → ℕ → ℕ) → List ℕ
 tableOf f = listed 144 (λ k. f (k / 12) (k % 12))
-
--- a table with the numbers f j as its row i
-abbrev pub withRow : List ℕ → ℕ → (ℕ → ℕ) → List ℕ
-withRow table i f = sets table (12 * i) (listed 12 f)
 
 -- probabilities are in millionths
 abbrev pub million : ℕ

@@ -6,7 +6,8 @@ ghost use lib.IntN.{pos, _+ℤ_, _-ℤ_};
 ghost use mir.Syntax.{w64};
 ghost use mir.Val.{SFits};
 ghost use Rattle.classes.specs.Classes.{carbonStocks, emissionFactor};
-ghost use Rattle.classes.specs.Matrix.{tableOf, withRow, optionOne, optionOneMatrix};
+ghost use Rattle.classes.specs.Matrix.{tableOf, optionOne, optionOneMatrix};
+ghost use Rattle.classes.specs.Rows.{withRow};
 ghost use Rattle.classes.specs.Calendar.{daysInYear};
 
 // An area, in millionths of a hectare.

@@ -11,7 +11,7 @@ use Rattle.classes.specs.Classes.{NF, emissionFactor}
 use Rattle.classes.specs.Matrix.{entry, tableOf}
 use Rattle.classes.proofs.MatrixLaws.{entry-tableOf, tableOf-cong}
 use Rattle.classes.proofs.FactorLaws.{factor-le}
-use Rattle.projection.specs.Projection.{FactorsFit}
+use Rattle.projection.specs.Ranges.{FactorsFit}
 use Rattle.projection.proofs.ProjectionLaws.{table-fits}
 use Rattle.figures.specs.Figures.{countedFactor}
 

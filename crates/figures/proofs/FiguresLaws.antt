@@ -22,20 +22,13 @@ use Rattle.classes.specs.Matrix.{entry}
 use Rattle.classes.specs.Calendar.{daysInYear}
 use Rattle.classes.proofs.CalendarLaws.{days-range}
 use Rattle.projection.specs.declared.Region.{Region}
-use Rattle.projection.specs.Projection.{areaTotal, projectedCarbon, SmallRegion, RowsWithin}
+use Rattle.projection.specs.Projection.{areaTotal, projectedCarbon}
+use Rattle.projection.specs.Ranges.{SmallRegion, RowsWithin}
 use Rattle.projection.proofs.ProjectionLaws.{projected-carbon-le}
 use Rattle.figures.specs.declared.Figures.{Figures}
 use Rattle.figures.specs.declared.YearCarbon.{YearCarbon}
-use Rattle.figures.specs.Figures.{
-  referenceLevel,
-  monitoredCarbon,
-  stockChangeEmissions,
-  displacedEmissions,
-  reductionOf,
-  creditedOf,
-  figuresOf,
-  carbonFigures,
-}
+use Rattle.figures.specs.Figures.{referenceLevel, monitoredCarbon, stockChangeEmissions, displacedEmissions, reductionOf, creditedOf, figuresOf}
+use Rattle.figures.specs.Carbon.{carbonFigures}
 use Rattle.figures.specs.Ranges.{SmallCarbon, SmallYear, SmallTable, SmallGrams, DaysOf}
 
 -- a number far within 64 bits fits them

@@ -10,7 +10,6 @@ use Rattle.arithmetic.specs.Rounding.{ceilDiv, floorDiv, positivePart}
 use Rattle.classes.specs.Classes.{classes, NF}
 use Rattle.classes.specs.Matrix.{entry}
 use Rattle.figures.specs.declared.Figures.{Figures}
-use Rattle.figures.specs.declared.YearCarbon.{YearCarbon}
 
 -- reference (document 001, equations 1 to 3: project reference level) = projected carbon × 11 × d ÷ (300 × D), down; belt reference alike.
 -- 10^-8 tC are 11 ÷ 300 g of CO2: × 44 ÷ 12 × 10^6
@@ -71,9 +70,3 @@ figuresOf reference project activity belt beltReference = record {
   reduction = record { 0 = reductionOf reference project activity (displacedEmissions belt beltReference) };
   credited = record { 0 = creditedOf (reductionOf reference project activity (displacedEmissions belt beltReference)) };
 }
-
--- those of d operating days of a year of D, from the carbon of project area and belt and the emissions of the activity records
-abbrev pub carbonFigures : (project belt : YearCarbon) → (activity : ℤ) → (d D : ℕ) → Figures
-carbonFigures project belt activity d D =
-    figuresOf (pos (referenceLevel (project .projected .0) d D)) (pos (stockChangeEmissions (project .monitored .0))) activity
-    (pos (stockChangeEmissions (belt .monitored .0))) (pos (referenceLevel (belt .projected .0) d D))

@@ -2,3 +2,4 @@ pub mod Year
 pub mod Figures
 pub mod Ranges
 pub mod Reckoning
+pub mod Carbon

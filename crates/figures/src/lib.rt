@@ -11,8 +11,10 @@ ghost use lib.ListN.{length};
 ghost use lib.IntN.{pos, negsuc};
 ghost use lib.Signed.{mag};
 ghost use Rattle.classes.specs.Classes.{NF, emissionFactor};
-ghost use Rattle.classes.specs.Matrix.{entry, tableOf, withRow};
-ghost use Rattle.figures.specs.Figures.{referenceLevel, countedFactor, stockChangeEmissions, displacedEmissions, creditedOf, tonnesOf, noFigures, carbonFigures};
+ghost use Rattle.classes.specs.Matrix.{entry, tableOf};
+ghost use Rattle.classes.specs.Rows.{withRow};
+ghost use Rattle.figures.specs.Figures.{referenceLevel, countedFactor, stockChangeEmissions, displacedEmissions, creditedOf, tonnesOf, noFigures};
+ghost use Rattle.figures.specs.Carbon.{carbonFigures};
 ghost use Rattle.figures.specs.Ranges.{SmallCarbon, SmallYear, SmallGrams, DaysOf};
 
 // What an opening settles and no year changes: the option, the carbon stocks and the matrix in use, and the starting areas of project and belt.

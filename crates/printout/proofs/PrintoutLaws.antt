@@ -10,7 +10,7 @@ use Rattle.dossier.specs.Records.{Dossier, DossierInRange}
 use Rattle.dossier.specs.Reader.{Judged, refused, accepted}
 use Rattle.dossier.specs.Judging.{dossier}
 use Rattle.dossier.proofs.WellFormed.{dossier-accepted}
-use Rattle.sheet.specs.Put.{Written}
+use Rattle.sheet.specs.Written.{Written}
 use Rattle.sheet.specs.Sheet.{sheetOf, refusalOf}
 use Rattle.reckoner.specs.declared.Ledger.{Ledger}
 use Rattle.reckoner.specs.declared.Answer.{Answer}
@@ -18,7 +18,8 @@ use Rattle.reckoner.specs.declared.Step.{Step}
 use Rattle.reckoner.specs.Ledger.{ledgerOf, firstYear}
 use Rattle.reckoner.specs.Calls.{closedBuffer, dossierJudged, dossierCall, reckonBuffer}
 use Rattle.reckoner.proofs.Numbers.{given-all, first-is}
-use Rattle.printout.specs.Printout.{printed, printout, ledgerSheet}
+use Rattle.printout.specs.Printout.{printed, printout}
+use Rattle.printout.specs.LedgerSheet.{ledgerSheet}
 
 -- by what the dossier is judged to be
 judged-as : (s : List ℕ) (j : Judged Dossier) → dossier s ≡ j → (dossierCall s ≡ dossierJudged j) × (printout s ≡ printed j (reckonBuffer s (replicate 1312 0)))

@@ -7,9 +7,7 @@ use Rattle.dossier.specs.Records.{Dossier}
 use Rattle.dossier.specs.Reader.{Judged, refused, accepted}
 use Rattle.dossier.specs.Judging.{dossier}
 use Rattle.sheet.specs.Sheet.{sheetOf, refusalOf}
-use Rattle.reckoner.specs.declared.Ledger.{Ledger}
-use Rattle.reckoner.specs.Ledger.{firstYear, ledgerOf}
-use Rattle.reckoner.specs.Calls.{closedBuffer, reckonBuffer}
+use Rattle.reckoner.specs.Calls.{reckonBuffer}
 
 -- an accepted dossier's sheet, from the result that the reckoning wrote; otherwise `refused` and the number
 abbrev pub printed : Judged Dossier → List ℕ → List ℕ
@@ -19,7 +17,3 @@ printed (accepted d rest) result = sheetOf (d .opening .head .firstYear) (d .ope
 -- the result is written into a buffer for 20 years
 unfoldable pub printout : List ℕ → List ℕ
 printout s = printed (dossier s) (reckonBuffer s (replicate 1312 0))
-
--- ---- the same of a ledger, which is what the code prints from
-unfoldable pub ledgerSheet : Ledger → List ℕ
-ledgerSheet l = sheetOf (firstYear l) (l .given) (closedBuffer l (replicate 1312 0))

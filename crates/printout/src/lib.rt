@@ -3,9 +3,10 @@ use reckoner::Answer;
 use reckoner::Ledger;
 ghost use mathlib.Core.Path.{_≡_};
 ghost use Prim.Native.Nat.{_≤_};
-ghost use Rattle.sheet.specs.Put.{Written};
+ghost use Rattle.sheet.specs.Written.{Written};
 ghost use Rattle.reckoner.specs.Calls.{HandedBack};
-ghost use Rattle.printout.specs.Printout.{ledgerSheet, printout};
+ghost use Rattle.printout.specs.Printout.{printout};
+ghost use Rattle.printout.specs.LedgerSheet.{ledgerSheet};
 
 // The sheet of a ledger, from its report in a buffer for 20 years.
 fn write_ledger_sheet(ledger: Ledger, out: &mut [u8; 4096]) -> usize
@@ -14,12 +15,7 @@ fn write_ledger_sheet(ledger: Ledger, out: &mut [u8; 4096]) -> usize
 {
     let mut result = [0u8; 1312];
     ledger.close(&mut result);
-    sheet::write_sheet(
-        ledger.first_year() as u16,
-        ledger.years(),
-        &result,
-        out,
-    )
+    sheet::write_sheet(ledger.first_year() as u16, ledger.years(), &result, out)
 }
 
 // The sheet of a dossier or the line of its refusal; the number of bytes written. The bytes beyond keep their content.

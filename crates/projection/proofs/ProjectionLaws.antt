@@ -11,7 +11,9 @@ use Rattle.classes.specs.declared.AreaUnits.{AreaUnits}
 use Rattle.classes.specs.Classes.{classes}
 use Rattle.classes.specs.Matrix.{entry, tableOf, million}
 use Rattle.classes.proofs.FactorLaws.{table-le}
-use Rattle.projection.specs.Projection.{area, areaTotal, flow, nextArea, nextAreas, inflowCarbon, projectedCarbon, lostArea, RowsWithin, FactorsFit}
+use Rattle.projection.specs.Projection.{area, areaTotal, flow, nextArea, nextAreas, projectedCarbon, lostArea}
+use Rattle.projection.specs.Inflow.{inflowCarbon}
+use Rattle.projection.specs.Ranges.{RowsWithin, FactorsFit}
 use Rattle.projection.proofs.FlowLaws as F
 
 pub million-pos : 0 < million

@@ -1,1 +1,3 @@
 pub mod Projection
+pub mod Ranges
+pub mod Inflow

@@ -1,6 +1,6 @@
 -- Document 01, "Projection", for any list of twelve areas: the project area's and the belt's alike.
 -- Assumes nothing.
-use Prim.Native.Nat.{ℕ, _+_, _-_, _*_, _/_, _≤_, _<_}
+use Prim.Native.Nat.{ℕ, _+_, _-_, _*_, _/_}
 use mathlib.Core.List.{List}
 use lib.ListN.{getD}
 use Rattle.arithmetic.specs.Sum.{sum, listed}
@@ -29,10 +29,6 @@ projectedCarbon factor areas matrix = sum classes (λ i. sum classes (λ j. flow
 unfoldable pub nextArea : List AreaUnits → List ℕ → ℕ → ℕ
 nextArea areas matrix j = sum classes (λ i. flow areas matrix i j)
 
--- the carbon of the flows into j
-unfoldable pub inflowCarbon : (ℕ → ℕ → ℕ) → List AreaUnits → List ℕ → ℕ → ℕ
-inflowCarbon factor areas matrix j = sum classes (λ i. flow areas matrix i j * factor i j)
-
 unfoldable pub nextAreas : List AreaUnits → List ℕ → List AreaUnits
 nextAreas areas matrix = listed classes (λ j. record { 0 = nextArea areas matrix j })
 
@@ -51,21 +47,3 @@ projectedRegion matrix region = record { areas = nextAreas (region .areas) matri
 -- the year of a region: what it is afterwards, and its projected carbon
 unfoldable pub projectedYear : (ℕ → ℕ → ℕ) → List ℕ → Region → Projected
 projectedYear factor matrix region = record { region = projectedRegion matrix region; carbon = record { 0 = projectedCarbon factor (region .areas) matrix } }
-
--- ---- ranges in which every sum and product fits 64 bits
-
--- document 01: "Each total is at most 10^12"
-abbrev pub SmallArea : ℕ → Type 0
-SmallArea area = area ≤ 1_000_000_000_000
-
--- with what rounding lost
-abbrev pub SmallRegion : Region → Type 0
-SmallRegion region = SmallArea (areaTotal (region .areas) + region .balance .0)
-
--- no row of a matrix sums to more than 1,000,000
-abbrev pub RowsWithin : List ℕ → Type 0
-RowsWithin matrix = (i : ℕ) → i < classes → sum classes (entry matrix i) ≤ million
-
--- a factor fits 16 bits
-abbrev pub FactorsFit : List ℕ → Type 0
-FactorsFit factors = (k : ℕ) → getD factors k 0 < 65536

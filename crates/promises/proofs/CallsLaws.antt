@@ -13,7 +13,7 @@ use Rattle.dossier.specs.Reader.{Judged, refused, accepted}
 use Rattle.dossier.specs.Judging.{yearPiece}
 use Rattle.dossier.proofs.Causes.{yearPiece-causes}
 use Rattle.dossier.proofs.WellFormed.{year-accepted}
-use Rattle.reckoning.specs.Step.{yearAdvanced}
+use Rattle.reckoning.specs.Advanced.{yearAdvanced}
 use Rattle.reckoner.specs.declared.Ledger.{Ledger}
 use Rattle.reckoner.specs.Ledger.{dueOf, givenYear, givenYears}
 use Rattle.reckoner.specs.Calls.{answerNumber, yearJudged, yearCall, closeCall, HandedBack, given}

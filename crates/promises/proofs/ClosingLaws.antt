@@ -36,9 +36,19 @@ fit-at (z ∷ zs) h zero l = h .0
 fit-at (z ∷ zs) h (suc i) l = fit-at zs (h .1) i (omega arith)
 
 fit-eight : (f : Figures) → FiguresSmall f → Fit (eight f)
-fit-eight f s =
-    (omega (arith, s .reference), (omega (arith, s .project), (omega (arith, s .activity), (omega (arith, s .belt),
-    (omega (arith, s .belt-reference), (omega (arith, s .displaced), (omega (arith, s .reduction), (omega (arith, s .credited), tt))))))))
+fit-eight f s = (
+  omega (arith, s .reference),
+  (
+    omega (arith, s .project),
+    (
+      omega (arith, s .activity),
+      (
+        omega (arith, s .belt),
+        (omega (arith, s .belt-reference), (omega (arith, s .displaced), (omega (arith, s .reduction), (omega (arith, s .credited), tt)))),
+      ),
+    ),
+  ),
+)
 
 fit-eights : (fs : List Figures) → ((k : ℕ) → k < length fs → FiguresSmall (getD fs k noFigures)) → Fit (eights fs)
 unfolding eights

@@ -20,8 +20,7 @@ use Rattle.figures.specs.Figures.{noFigures}
 use Rattle.figures.specs.Year.{Year}
 use Rattle.figures.specs.Reckoning.{recordCount}
 use Rattle.assurance.specs.Unrounded.{openedᶠ, afterYearsᶠ}
-use Rattle.assurance.specs.Assurance.{Assured}
-use Rattle.assurance.proofs.Assurance.{reckoned-assured}
+use Rattle.assurance.proofs.Assurance.{Assured, reckoned-assured}
 use Rattle.assurance.proofs.YearLaws.{Reckoned, opened-reckoned}
 use Rattle.wire.specs.Bytes.{Bytes}
 use Rattle.wire.specs.Signed.{figureAt}

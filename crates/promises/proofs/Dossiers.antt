@@ -15,7 +15,7 @@ use Rattle.dossier.specs.Judging.{dossier, openingPiece, yearPiece}
 use Rattle.dossier.proofs.WellFormed.{dossier-accepted, opening-accepted}
 use Rattle.dossier.proofs.Pieces.{YearPieces, years-given}
 use Rattle.dossier.proofs.DossierLaws.{room-opening}
-use Rattle.reckoning.specs.Step.{yearAdvanced}
+use Rattle.reckoning.specs.Advanced.{yearAdvanced}
 use Rattle.reckoner.specs.declared.Ledger.{Ledger}
 use Rattle.reckoner.specs.declared.Answer.{Answer}
 use Rattle.reckoner.specs.Ledger.{newLedger, openedLedger, dueOf, givenYear, givenYears, ledgerOf}

@@ -21,7 +21,7 @@ use Rattle.dossier.specs.Layouts.{activityBytes}
 use Rattle.dossier.specs.Reader.{_>>=_, _>>_, give, mark, stands, upon, present, begin, field, fields, outside, within, equal, nothing}
 use Rattle.dossier.specs.JudgingRecords.{head, areas, matrixUnder, conversions, inRange, fieldsOf, activityMark, activityUnder, activity}
 use Rattle.dossier.specs.Judging.{opening, run, activities, yearRecords, yearLeft, year, end, years, dossier}
-use Rattle.reckoning.specs.Step.{yearAdvanced}
+use Rattle.reckoning.specs.Advanced.{yearAdvanced}
 use Rattle.report.specs.Report.{eights, reported}
 use Rattle.reckoner.specs.Ledger.{newLedger, openedLedger, dueOf, givenYear, givenYears, ledgerOf, report}
 use Rattle.reckoner.specs.Calls.{closedBuffer, dossierCall, reckonBuffer}

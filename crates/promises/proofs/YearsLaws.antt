@@ -16,7 +16,7 @@ use Rattle.figures.specs.Reckoning.{yearFigures, recordCount, afterFigures, aft
 use Rattle.assurance.specs.Unrounded.{Unrounded, afterYearsᶠ}
 use Rattle.assurance.proofs.YearLaws.{Reckoned, year-reckoned}
 use Rattle.dossier.specs.Records.{next, YearsInRange}
-use Rattle.reckoning.specs.Step.{yearAdvanced}
+use Rattle.reckoning.specs.Advanced.{yearAdvanced}
 use Rattle.reckoner.specs.declared.Ledger.{Ledger}
 use Rattle.reckoner.specs.Ledger.{dueOf, givenYear, givenYears}
 use Rattle.promises.specs.Reported.{yearsFigures, periodTotal, projectedYears}

@@ -23,12 +23,15 @@ use Rattle.opening.specs.Answers.{openedSays, settledOpening}
 use Rattle.reckoning.specs.declared.Advanced.{Advanced}
 use Rattle.reckoning.specs.declared.StepAnswer.{StepAnswer}
 use Rattle.reckoning.specs.declared.Stepped.{Stepped}
-use Rattle.reckoning.specs.Step.{yearAdvanced, steppedYear, stepSays, stepInside}
+use Rattle.reckoning.specs.Step.{steppedYear, stepSays, stepInside}
+use Rattle.reckoning.specs.Advanced.{yearAdvanced}
 use Rattle.reckoner.specs.declared.Ledger.{Ledger}
 use Rattle.reckoner.specs.declared.Answer.{Answer}
 use Rattle.reckoner.specs.declared.Step.{Step}
-use Rattle.reckoner.specs.Ledger.{newLedger, openedLedger, NewlyOpened, dueOf, withAdvanced, givenYear, givenYears, ledgerOf}
-use Rattle.reckoner.specs.Calls.{refusedOpening, dossierJudged, dossierCall, HandedBack, whole, yearsJudged, yearsCall}
+use Rattle.reckoner.specs.Ledger.{newLedger, openedLedger, dueOf, withAdvanced, givenYear, givenYears, ledgerOf}
+use Rattle.reckoner.specs.Parts.{NewlyOpened}
+use Rattle.reckoner.specs.Calls.{refusedOpening, dossierJudged, dossierCall, HandedBack, whole}
+use Rattle.reckoner.specs.Parts.{yearsJudged, yearsCall}
 use Rattle.reckoner.proofs.Invariant.{LedgerKept, due-kept, opened-kept, given-kept}
 use Rattle.reckoner.proofs.OpenLaws.{read, read-ledger}
 use Rattle.reckoner.proofs.YearLaws.{Tables, none-given, one-given, next-inside}

@@ -20,7 +20,7 @@ use Rattle.classes.specs.Classes.{classes}
 use Rattle.classes.specs.Matrix.{entry, RowsSum, optionOneMatrix}
 use Rattle.classes.proofs.MatrixLaws.{option-one-rows}
 use Rattle.classes.proofs.FactorLaws.{built-in-le}
-use Rattle.projection.specs.Projection.{RowsWithin}
+use Rattle.projection.specs.Ranges.{RowsWithin}
 use Rattle.figures.specs.declared.Figures.{Figures}
 use Rattle.figures.specs.Figures.{noFigures}
 use Rattle.figures.specs.Year.{Year}
@@ -31,9 +31,11 @@ use Rattle.dossier.specs.Records.{Opening, OpeningInRange, MatrixUnder, matrixI
 use Rattle.dossier.specs.Reader.{Judged, refused, accepted}
 use Rattle.dossier.specs.Judging.{dossier, openingPiece, yearPiece}
 use Rattle.dossier.proofs.WellFormed.{dossier-accepted, opening-accepted, year-accepted}
-use Rattle.reckoning.specs.Step.{yearAdvanced, SmallState}
+use Rattle.reckoning.specs.Step.{SmallState}
+use Rattle.reckoning.specs.Advanced.{yearAdvanced}
 use Rattle.reckoner.specs.declared.Ledger.{Ledger}
-use Rattle.reckoner.specs.Ledger.{newLedger, emptyLedger, openedLedger, dueOf, givenYear, givenYears, ledgerOf, Closable}
+use Rattle.reckoner.specs.Ledger.{newLedger, emptyLedger, openedLedger, dueOf, givenYear, givenYears, ledgerOf}
+use Rattle.reckoner.specs.Parts.{Closable}
 use Rattle.reckoner.specs.Calls.{openJudged, openCall, yearJudged, yearCall, dossierJudged, dossierCall, HandedBack, opened, given, whole}
 use Rattle.reckoner.proofs.YearRanges.{figures-range}
 use Rattle.reckoner.proofs.RegionKept.{RegionKept, zero-region, opened-region, projected-kept}

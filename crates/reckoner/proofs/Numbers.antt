@@ -13,7 +13,7 @@ use lib.ListN.{length, take}
 use Rattle.wire.specs.Bytes.{Bytes}
 use Rattle.figures.specs.Year.{Year}
 use Rattle.figures.specs.Reckoning.{afterFigures, afterYear}
-use Rattle.reckoning.specs.Step.{yearAdvanced}
+use Rattle.reckoning.specs.Advanced.{yearAdvanced}
 use Rattle.dossier.specs.Records.{stateOf, Dossier, DossierInRange, dossierBytes}
 use Rattle.dossier.specs.Reader.{Judged, refused, accepted}
 use Rattle.dossier.specs.Judging.{dossier}

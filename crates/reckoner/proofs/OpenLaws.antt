@@ -21,7 +21,8 @@ use Rattle.opening.specs.Answers.{openedSays, settledOpening, settledPiece}
 use Rattle.reckoner.specs.declared.Ledger.{Ledger}
 use Rattle.reckoner.specs.declared.Answer.{Answer}
 use Rattle.reckoner.specs.declared.Step.{Step}
-use Rattle.reckoner.specs.Ledger.{newLedger, emptyLedger, openedLedger, NewlyOpened}
+use Rattle.reckoner.specs.Ledger.{newLedger, emptyLedger, openedLedger}
+use Rattle.reckoner.specs.Parts.{NewlyOpened}
 use Rattle.reckoner.specs.Calls.{refusedOpening, openJudged, openCall, HandedBack, opened}
 
 -- the empty ledger is handed back by an opening of no bytes

@@ -9,7 +9,8 @@ use Rattle.arithmetic.specs.Sum.{sum}
 use Rattle.arithmetic.proofs.SumLaws.{sum-cong, length-listed}
 use Rattle.classes.specs.Classes.{classes}
 use Rattle.projection.specs.declared.Region.{Region}
-use Rattle.projection.specs.Projection.{area, areaTotal, nextAreas, openedRegion, projectedRegion, RowsWithin}
+use Rattle.projection.specs.Projection.{area, areaTotal, nextAreas, openedRegion, projectedRegion}
+use Rattle.projection.specs.Ranges.{RowsWithin}
 use Rattle.projection.proofs.ProjectionLaws.{areas-kept}
 use Rattle.wire.specs.Bytes.{total}
 use Rattle.dossier.proofs.LoopLaws.{total-entries}

@@ -11,7 +11,7 @@ use borrow.Author.Tests.{eqb-false}
 use Rattle.wire.specs.Bytes.{Bytes}
 use Rattle.classes.specs.Classes.{emissionFactor}
 use Rattle.classes.specs.Matrix.{entry, tableOf}
-use Rattle.projection.specs.Projection.{FactorsFit}
+use Rattle.projection.specs.Ranges.{FactorsFit}
 use Rattle.figures.specs.declared.Terms.{Terms}
 use Rattle.figures.specs.declared.State.{State}
 use Rattle.figures.specs.Year.{Year}
@@ -25,7 +25,8 @@ use Rattle.cursor.specs.Answers.{numberSays}
 use Rattle.cursor.proofs.AtLaws.{number-no, number-yes, bind-no, bind-yes, Made, made-no, made-yes}
 use Rattle.reckoning.specs.declared.StepAnswer.{StepAnswer}
 use Rattle.reckoning.specs.declared.Stepped.{Stepped}
-use Rattle.reckoning.specs.Step.{yearAdvanced, steppedYear, stepSays, stepInside}
+use Rattle.reckoning.specs.Step.{steppedYear, stepSays, stepInside}
+use Rattle.reckoning.specs.Advanced.{yearAdvanced}
 use Rattle.reckoning.proofs.StepLaws.{step-is}
 use Rattle.reckoner.specs.declared.Ledger.{Ledger}
 use Rattle.reckoner.specs.declared.Answer.{Answer}

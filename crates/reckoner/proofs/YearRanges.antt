@@ -7,7 +7,7 @@ use lib.IntN.{pos}
 use lib.ListN.{getD}
 use Rattle.classes.specs.Classes.{emissionFactor}
 use Rattle.projection.specs.declared.Region.{Region}
-use Rattle.projection.specs.Projection.{SmallArea, SmallRegion, RowsWithin}
+use Rattle.projection.specs.Ranges.{SmallArea, SmallRegion, RowsWithin}
 use Rattle.activity.proofs.ActivityLaws.{emissions-le}
 use Rattle.figures.specs.declared.Terms.{Terms}
 use Rattle.figures.specs.Year.{Year}

@@ -2,7 +2,7 @@
 -- Assumes nothing.
 use Prim.Native.Nat.{ℕ, _+_, _*_}
 use mathlib.Core.Bool.{Bool, cond}
-use mathlib.Core.List.{List, []}
+use mathlib.Core.List.{List}
 use lib.Dec.{ltb}
 use lib.ListN.{length}
 use Rattle.wire.specs.Bytes.{Bytes}
@@ -10,11 +10,11 @@ use Rattle.wire.specs.Signed.{written}
 use Rattle.figures.specs.Year.{Year}
 use Rattle.dossier.specs.Records.{Opening, Dossier}
 use Rattle.dossier.specs.Reader.{Judged, refused, accepted}
-use Rattle.dossier.specs.Judging.{dossier, years, openingPiece, yearPiece}
+use Rattle.dossier.specs.Judging.{dossier, openingPiece, yearPiece}
 use Rattle.reckoner.specs.declared.Ledger.{Ledger}
 use Rattle.reckoner.specs.declared.Answer.{Answer}
 use Rattle.reckoner.specs.declared.Step.{Step}
-use Rattle.reckoner.specs.Ledger.{emptyLedger, openedLedger, dueOf, givenYear, givenYears, ledgerOf, report}
+use Rattle.reckoner.specs.Ledger.{emptyLedger, openedLedger, dueOf, givenYear, ledgerOf, report}
 
 -- what comes of an answer: of a refusal by its number, or of an acceptance
 abbrev pub answered : {A : Type 0} → Answer → (refusal : ℕ → A) → (acceptance : A) → A
@@ -77,11 +77,3 @@ reckonNumber s size = answered (dossierCall s .answer) (λ n. n) (answerNumber (
 
 unfoldable pub reckonBuffer : List ℕ → List ℕ → List ℕ
 reckonBuffer s buffer = answered (dossierCall s .answer) (λ n. buffer) (closedBuffer (dossierCall s .ledger) buffer)
-
--- ---- its part after the opening: the years that a newly opened ledger has to come, and EN
-abbrev pub yearsJudged : Ledger → Judged (List Year) → Step
-yearsJudged l (refused n) = refusedOpening n
-yearsJudged l (accepted ys rest) = record { ledger = givenYears ys l; answer = Answer.Accepted }
-
-unfoldable pub yearsCall : Ledger → List ℕ → Step
-yearsCall l s = yearsJudged l (years (l .state .left) (dueOf l) [] s)

@@ -1,7 +1,6 @@
 -- Document 01, "Calls and sheet": the ledger, what an opening and a year make of it, and what closing reports.
 -- Assumes nothing.
-use Prim.Native.Nat.{ℕ, _+_, _-_, _^_, _≤_, _<_}
-use mathlib.Core.Path.{_≡_}
+use Prim.Native.Nat.{ℕ, _+_, _-_}
 use mathlib.Core.List.{List, [], _∷_}
 use lib.IntN.{ℤ}
 use lib.ListN.{set, replicate}
@@ -9,9 +8,9 @@ use Rattle.figures.specs.declared.Terms.{Terms}
 use Rattle.figures.specs.declared.State.{State}
 use Rattle.figures.specs.Figures.{noFigures}
 use Rattle.figures.specs.Year.{Year}
-use Rattle.dossier.specs.Records.{Opening, OpeningInRange, termsOf, stateOf, emptyTerms, emptyState, Due, Dossier}
+use Rattle.dossier.specs.Records.{Opening, termsOf, stateOf, emptyTerms, emptyState, Due, Dossier}
 use Rattle.reckoning.specs.declared.Advanced.{Advanced}
-use Rattle.reckoning.specs.Step.{yearAdvanced}
+use Rattle.reckoning.specs.Advanced.{yearAdvanced}
 use Rattle.report.specs.Report.{reported}
 use Rattle.reckoner.specs.declared.Ledger.{Ledger}
 
@@ -26,12 +25,6 @@ emptyLedger = newLedger emptyTerms emptyState
 -- a ledger opened from HD to MP
 unfoldable pub openedLedger : Opening → Ledger
 openedLedger o = newLedger (termsOf o) (stateOf o)
-
--- so opened from records in range, with no year given yet
-pub record NewlyOpened (l : Ledger) : Type 0 where
-  pub opening : Opening
-  pub inRange : OpeningInRange opening
-  pub made : l ≡ openedLedger opening
 
 -- what a year that it is given is judged against
 unfoldable pub dueOf : Ledger → Due
@@ -59,9 +52,3 @@ firstYear l = l .state .year - l .given
 -- what closing reports: the numbers of the years given so far
 unfoldable pub report : Ledger → List ℤ
 report l = reported (l .given) (l .figures) (l .state .total .0) (l .state .project .balance .0) (l .state .belt .balance .0)
-
--- a ledger whose report fits its places: at most 20 years, balances in 63 bits
-pub record Closable (l : Ledger) : Type 0 where
-  pub years : l .given ≤ 20
-  pub balance : l .state .project .balance .0 < 2 ^ 63
-  pub beltBalance : l .state .belt .balance .0 < 2 ^ 63

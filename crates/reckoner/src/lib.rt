@@ -8,8 +8,10 @@ use reckoning::StepAnswer;
 ghost use mathlib.Core.Path.{_≡_};
 ghost use Prim.Native.Nat.{_≤_, _<_};
 ghost use lib.ListN.{length, drop};
-ghost use Rattle.reckoner.specs.Ledger.{newLedger, withAdvanced, firstYear, NewlyOpened, Closable};
-ghost use Rattle.reckoner.specs.Calls.{answerNumber, refusedOpening, openCall, yearCall, closeCall, closedBuffer, dossierCall, HandedBack, reckonNumber, reckonBuffer, yearsCall};
+ghost use Rattle.reckoner.specs.Ledger.{newLedger, withAdvanced, firstYear};
+ghost use Rattle.reckoner.specs.Parts.{NewlyOpened, Closable};
+ghost use Rattle.reckoner.specs.Calls.{answerNumber, refusedOpening, openCall, yearCall, closeCall, closedBuffer, dossierCall, HandedBack, reckonNumber, reckonBuffer};
+ghost use Rattle.reckoner.specs.Parts.{yearsCall};
 
 // A ledger: the years given, what its opening settled, the state that years change, and the figures of the years given.
 pub struct Ledger {
@@ -171,8 +173,16 @@ impl Ledger {
         figures::fill_factors(&mut factors, &mut counted, &stocks, terms.option);
         let start = terms.start;
         let beltstart = terms.beltstart;
-        let stepped =
-            reckoning::step(piece, 0, state, start, beltstart, &matrix, &factors, &counted);
+        let stepped = reckoning::step(
+            piece,
+            0,
+            state,
+            start,
+            beltstart,
+            &matrix,
+            &factors,
+            &counted,
+        );
         let answer = stepped.answer;
         let advanced = stepped.advanced;
         match answer {

@@ -16,11 +16,12 @@ use Rattle.classes.specs.Matrix.{entry}
 use Rattle.classes.specs.Calendar.{daysInYear}
 use Rattle.projection.specs.declared.Region.{Region}
 use Rattle.projection.specs.declared.Projected.{Projected}
-use Rattle.projection.specs.Projection.{projectedYear, SmallRegion, RowsWithin, FactorsFit}
+use Rattle.projection.specs.Projection.{projectedYear}
+use Rattle.projection.specs.Ranges.{SmallRegion, RowsWithin, FactorsFit}
 use Rattle.projection.proofs.ProjectionLaws.{fitting-le}
 use Rattle.figures.specs.declared.Figures.{Figures}
 use Rattle.figures.specs.Ranges.{SmallCarbon, SmallYear, SmallGrams, DaysOf}
-use Rattle.figures.specs.Figures.{carbonFigures}
+use Rattle.figures.specs.Carbon.{carbonFigures}
 use Rattle.figures.proofs.FiguresLaws.{projected-small, calendar-days, year-small}
 use Rattle.figures.specs.declared.State.{State}
 use Rattle.figures.specs.Reckoning.{afterFigures}

@@ -1,29 +1,24 @@
--- One year's reckoning: what it does to the state that years change, and the figures it makes.
--- Assumes nothing.
+-- One year's reckoning over the bytes, from a year's summary and by tables of factors.
+-- Serves contracts of inner functions and proofs; nothing here has to be believed. Assumes nothing.
 use Prim.Native.Nat.{ℕ, _^_, _≤_, _<_}
 use mathlib.Core.Path.{_≡_}
 use mathlib.Core.List.{List}
 use lib.Signed.{mag}
 use lib.ListN.{length, drop}
 use Rattle.classes.specs.Calendar.{daysInYear}
-use Rattle.projection.specs.Projection.{projectedCarbon, SmallRegion}
+use Rattle.projection.specs.Projection.{projectedCarbon}
+use Rattle.projection.specs.Ranges.{SmallRegion}
 use Rattle.figures.specs.declared.Figures.{Figures}
-use Rattle.figures.specs.declared.Terms.{Terms}
 use Rattle.figures.specs.declared.State.{State}
-use Rattle.figures.specs.Year.{Year}
-use Rattle.figures.specs.Figures.{noFigures, carbonFigures}
-use Rattle.figures.specs.Reckoning.{yearFigures, afterFigures, afterYear}
+use Rattle.figures.specs.Figures.{noFigures}
+use Rattle.figures.specs.Carbon.{carbonFigures}
+use Rattle.figures.specs.Reckoning.{afterFigures}
 use Rattle.dossier.specs.Reader.{Judged, refused, accepted, Reader, _>>=_, give}
 use Rattle.years.specs.Answers.{Summary, summarizedYear}
 use Rattle.reckoning.specs.declared.Advanced.{Advanced}
 use Rattle.reckoning.specs.declared.StepAnswer.{StepAnswer}
 use Rattle.reckoning.specs.declared.Stepped.{Stepped}
 
--- the state after an accepted year, and its figures
-unfoldable pub yearAdvanced : Terms → Year → State → Advanced
-yearAdvanced t y state = record { state = afterYear t y state; figures = yearFigures t y (state .project) (state .belt) }
-
--- ---- the same from a year's summary, by tables of factors
 unfoldable pub summaryFigures : (ℕ → ℕ → ℕ) → List ℕ → Summary → State → Figures
 summaryFigures factor matrix m state =
     carbonFigures (record { projected = record { 0 = projectedCarbon factor (state .project .areas) matrix }; monitored = m .project })

@@ -11,7 +11,7 @@ ghost use Prim.Native.Nat.{_≤_};
 ghost use lib.ListN.{length, drop};
 ghost use Rattle.classes.specs.Matrix.{entry};
 ghost use Rattle.classes.specs.Calendar.{daysInYear};
-ghost use Rattle.projection.specs.Projection.{RowsWithin, FactorsFit};
+ghost use Rattle.projection.specs.Ranges.{RowsWithin, FactorsFit};
 ghost use Rattle.figures.specs.Ranges.{SmallCarbon, SmallGrams};
 ghost use Rattle.reckoning.specs.Step.{summaryAdvanced, steppedYear, stepSays, stepInside, SmallState};
 

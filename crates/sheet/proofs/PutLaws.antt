@@ -7,7 +7,8 @@ use native.Mathlib.Omega.{arith}
 use lib.ListN.{length, getD, set, take, drop, length-append, drop-of-length-le}
 use lib.Seq.{sets, sets-eq, length-sets, drop-cons, length-take-le}
 use Rattle.arithmetic.proofs.StoreLaws.{sets-append}
-use Rattle.sheet.specs.Put.{Put, Written}
+use Rattle.sheet.specs.Put.{Put}
+use Rattle.sheet.specs.Written.{Written}
 
 -- of a text, what is left to write from a place on: writing it gives what writing all of the text gives
 pub record Rest (old : List ℕ) (at : ℕ) (text new : List ℕ) (next : ℕ) (left : List ℕ) : Type 0 where

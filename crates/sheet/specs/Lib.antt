@@ -3,3 +3,4 @@ pub mod Decimal
 pub mod Put
 pub mod Sheet
 pub mod CallLine
+pub mod Written

@@ -4,7 +4,8 @@ ghost use mathlib.Core.List.{[], _∷_};
 ghost use lib.ListN.{length};
 ghost use Rattle.wire.specs.Signed.{signed};
 ghost use Rattle.sheet.specs.Decimal.{decimal, decimalOf};
-ghost use Rattle.sheet.specs.Put.{Put, Written};
+ghost use Rattle.sheet.specs.Put.{Put};
+ghost use Rattle.sheet.specs.Written.{Written};
 ghost use Rattle.sheet.specs.CallLine.{callLine};
 ghost use Rattle.sheet.specs.Sheet.{spaced, named, yearLine, yearLines, totalLine, sheetOf, refusalOf};
 

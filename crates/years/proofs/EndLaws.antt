@@ -70,4 +70,3 @@ module _ (s : List ℕ) (at : ℕ) where
       end-there g h =
           let j : length (drop 2 (drop at s)) ≤ 0 = simp length-drop (omega arith) in
           rw (stands-here (is YR) s at x long e, ne-eqb _ _ f) (simp (le-ltb _ _ two, eq-eqb _ _ (sym e ∙ g), no-more (drop 2 (drop at s)) j))
-

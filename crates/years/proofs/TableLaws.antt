@@ -14,7 +14,7 @@ use Rattle.arithmetic.specs.Sum.{sum}
 use Rattle.arithmetic.proofs.SumLaws.{sum-next, sum-cong}
 use Rattle.classes.specs.declared.CarbonUnits.{CarbonUnits}
 use Rattle.classes.specs.Matrix.{entry}
-use Rattle.projection.specs.Projection.{FactorsFit}
+use Rattle.projection.specs.Ranges.{FactorsFit}
 use Rattle.figures.specs.Figures.{monitoredCarbon}
 use Rattle.figures.proofs.FiguresLaws.{monitored-places}
 use Rattle.wire.specs.Bytes.{numbers, total, fieldAt}

@@ -7,7 +7,7 @@ ghost use Prim.Native.Nat.{_≤_, _<_};
 ghost use lib.ListN.{length, drop};
 ghost use Rattle.classes.specs.Matrix.{entry};
 ghost use mathlib.Core.List.{[]};
-ghost use Rattle.projection.specs.Projection.{SmallArea, FactorsFit};
+ghost use Rattle.projection.specs.Ranges.{SmallArea, FactorsFit};
 ghost use Rattle.dossier.specs.Reader.{numberOf};
 ghost use Rattle.dossier.specs.Judging.{noneLeft, end};
 ghost use Rattle.cursor.specs.Answers.{numberSays};

@@ -31,7 +31,7 @@ returns c =
     let at-answer = at-end .before .before in
     let opened = at-answer .before .before .read-opening in
     opening-refused _ _ _ _ (c .no-opening2 .ensures)
-        (piece-fault _ _ (opened .ensures .0) _ (at-answer .answer2 .given .1) _ (at-end .end-of-piece .ensures) (c .before .if1 .taken))
+    (piece-fault _ _ (opened .ensures .0) _ (at-answer .answer2 .given .1) _ (at-end .end-of-piece .ensures) (c .before .if1 .taken))
 
 returns-2 : tie.Need-returns-2
 returns-2 c =

@@ -49,9 +49,11 @@ returns-4 c =
     let at-days = c .before .before .before in
     let at-year = at-days .before in
     let at-begun = at-year .before .before .before in
-    let read-due = sym (at-year .if3 .left) ∙ at-year .before .field16 .ensures .0 in
-    (days-wrong _ _ _ _ _ _ _ _ (at-begun .begun .ensures .0) (at-year .before .before .if2 .left) (at-begun .before .if1 .left) _ _ read-due (at-days .field162 .ensures .0)
-        refl _ (c .before .before .days-in-year .ensures) _ (c .before .outside .ensures) (c .if4 .taken), (tt, tt))
+    let read-due = sym (at-year .if3 .left) ∙ at-year .before .field16 .ensures .0 in (
+      days-wrong _ _ _ _ _ _ _ _ (at-begun .begun .ensures .0) (at-year .before .before .if2 .left) (at-begun .before .if1 .left) _ _ read-due (at-days .field162 .ensures .0)
+          refl _ (c .before .before .days-in-year .ensures) _ (c .before .outside .ensures) (c .if4 .taken),
+      (tt, tt),
+    )
 
 add-read-tables : tie.Need-add-read-tables
 add-read-tables c = search needs

@@ -43,7 +43,7 @@ returns-2 c =
     let at-opening = at-answer .before .before .before .before in
     let opened = at-opening .read-opening in
     dossier-handed _ (λ k. at-opening .before .shared-slice-known .given k .fits) _
-        (dossier-is _ _ (opened .ensures .0) _ (at-answer .answer2 .given .1) _ (at-new .new-ledger .ensures) _ (c .give-years .ensures))
+    (dossier-is _ _ (opened .ensures .0) _ (at-answer .answer2 .given .1) _ (at-new .new-ledger .ensures) _ (c .give-years .ensures))
 
 pub of-dossier-spec : {M : Type 1} → statement M
 of-dossier-spec =

@@ -30,7 +30,7 @@ returns-2 : tie.Need-returns-2
 returns-2 c =
     let at-piece = c .before .before .before .before .before in
     open-handed _ (λ k. at-piece .before .shared-slice-known .given k .fits) _
-        (open-yes _ _ (at-piece .read-piece .ensures .0) _ (c .before .enum-told .given .1) _ (c .new-ledger .ensures))
+    (open-yes _ _ (at-piece .read-piece .ensures .0) _ (c .before .enum-told .given .1) _ (c .new-ledger .ensures))
 
 pub open-spec : {M : Type 1} → statement M
 open-spec =

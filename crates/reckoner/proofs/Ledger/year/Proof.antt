@@ -47,7 +47,7 @@ returns c =
     let at-step = at-answer .before .before .before in
     let t = at-tables at-step in
     year-handed _ _ _ (at-start t .pre) (lent t)
-        (year-fault _ _ _ (tables _ (t .fill-factors .ensures)) _ _ (at-step .step .ensures .0) _ (at-answer .answer2 .given .1) _ (at-end .end-of-piece .ensures) (c .if1 .taken))
+    (year-fault _ _ _ (tables _ (t .fill-factors .ensures)) _ _ (at-step .step .ensures .0) _ (at-answer .answer2 .given .1) _ (at-end .end-of-piece .ensures) (c .if1 .taken))
 
 with-year-requires : tie.Need-with-year-requires
 with-year-requires c κs =
@@ -70,7 +70,7 @@ returns-3 c =
     let at-step = at-answer .before .before .before in
     let t = at-tables at-step in
     year-handed _ _ _ (at-start t .pre) (lent t)
-        (year-yes _ _ _ (tables _ (t .fill-factors .ensures)) _ _ (at-step .step .ensures .0) _ (at-answer .answer2 .given .1) _ (at-end .end-of-piece .ensures) (c .before .if1 .left) _ (c .with-year .ensures))
+    (year-yes _ _ _ (tables _ (t .fill-factors .ensures)) _ _ (at-step .step .ensures .0) _ (at-answer .answer2 .given .1) _ (at-end .end-of-piece .ensures) (c .before .if1 .left) _ (c .with-year .ensures))
 
 pub year-spec : {M : Type 1} → statement M
 year-spec =
