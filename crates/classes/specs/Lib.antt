@@ -1,3 +1,4 @@
 pub mod Classes
 pub mod Matrix
 pub mod Calendar
+pub mod Ranges

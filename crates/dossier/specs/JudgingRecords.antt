@@ -8,6 +8,7 @@ use lib.Dec.{eqb}
 use Rattle.arithmetic.specs.Sum.{sum}
 use Rattle.classes.specs.Classes.{classes}
 use Rattle.classes.specs.Matrix.{entry, million}
+use Rattle.classes.specs.Ranges.{greatestArea}
 use Rattle.activity.specs.declared.Activity.{Activity}
 use Rattle.activity.specs.Activity.{Range, ranges}
 use Rattle.wire.specs.Bytes.{total}
@@ -34,7 +35,7 @@ unfoldable pub areas : ℕ → ℕ → Reader (List ℕ)
 areas m least = do
   begin m 96
   xs ← fields 12 8
-  within areaTotalWrong least (total xs) 1000000000000
+  within areaTotalWrong least (total xs) greatestArea
   give xs
 
 -- MP: the sums of the first k rows

@@ -7,6 +7,7 @@ use Rattle.arithmetic.specs.Sum.{sum, listed}
 use Rattle.classes.specs.declared.AreaUnits.{AreaUnits}
 use Rattle.classes.specs.Classes.{classes}
 use Rattle.classes.specs.Matrix.{entry, million}
+use Rattle.classes.specs.Ranges.{greatestArea}
 use Rattle.projection.specs.declared.Region.{Region}
 use Rattle.projection.specs.declared.Projected.{Projected}
 
@@ -56,7 +57,7 @@ projectedYear factor matrix region = record { region = projectedRegion matrix re
 
 -- document 01: "Each total is at most 10^12"
 abbrev pub SmallArea : ℕ → Type 0
-SmallArea area = area ≤ 1_000_000_000_000
+SmallArea area = area ≤ greatestArea
 
 -- with what rounding lost
 abbrev pub SmallRegion : Region → Type 0
