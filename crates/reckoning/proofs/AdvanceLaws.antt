@@ -28,7 +28,8 @@ use Rattle.reckoning.specs.declared.Advanced.{Advanced}
 use Rattle.reckoning.specs.Step.{summaryFigures, summaryAdvanced}
 
 -- the carbon of a small region is small
-pub carbon-small : (matrix factors : List ℕ) (region : Region) (r : Projected) → RowsWithin matrix → FactorsFit factors → SmallRegion region → r ≡ projectedYear (entry factors) matrix region → SmallCarbon (r .carbon .0)
+pub carbon-small : (matrix factors : List ℕ) (region : Region) (r : Projected) → RowsWithin matrix → FactorsFit factors → SmallRegion region
+    → r ≡ projectedYear (entry factors) matrix region → SmallCarbon (r .carbon .0)
 unfolding projectedYear
 carbon-small matrix factors region r rows fit small e = rw e (projected-small region matrix (entry factors) small rows (fitting-le factors fit))
 

@@ -43,7 +43,8 @@ pub record WasRead (s : List ℕ) (due left days : ℕ) (p b : CarbonUnits) (a :
   pub some : 1 ≤ left
   pub allowed : days ≤ daysInYear due
 
-pub year-was-read : (s : List ℕ) (r : YearAnswer) (due left days : ℕ) (p b : CarbonUnits) (a : Grams) (next : ℕ) (j : Judged Summary) → r ≡ YearAnswer.Read days p b a next → yearSays s r ≡ j → tablesInside s r → yearFits due left r
+pub year-was-read : (s : List ℕ) (r : YearAnswer) (due left days : ℕ) (p b : CarbonUnits) (a : Grams) (next : ℕ) (j : Judged Summary)
+    → r ≡ YearAnswer.Read days p b a next → yearSays s r ≡ j → tablesInside s r → yearFits due left r
     → WasRead s due left days p b a next j
 year-was-read s r due left days p b a next j e q i f =
     let k : (next ≤ length s) × SmallCarbon (p .0) × SmallCarbon (b .0) × (mag (a .0) ≤ greatestActivity) = rw e at i in
@@ -55,12 +56,14 @@ module _ (factor counted : ℕ → ℕ → ℕ) (matrix : List ℕ) (start belts
   unfolding steppedYear
   stepped-no n e = bind-no (summarizedYear counted (state .year) (state .left) start beltstart) _ u n e
 
-  pub stepped-yes : (m : Summary) (v : List ℕ) (a : Advanced) → accepted m v ≡ summarizedYear counted (state .year) (state .left) start beltstart u → a ≡ summaryAdvanced factor matrix m state → accepted a v ≡ steppedYear factor counted matrix start beltstart state u
+  pub stepped-yes : (m : Summary) (v : List ℕ) (a : Advanced) → accepted m v ≡ summarizedYear counted (state .year) (state .left) start beltstart u
+      → a ≡ summaryAdvanced factor matrix m state → accepted a v ≡ steppedYear factor counted matrix start beltstart state u
   unfolding steppedYear give
   stepped-yes m v a e f = rw f (bind-yes (summarizedYear counted (state .year) (state .left) start beltstart) _ u m v e)
 
 -- ---- by the tables of the terms, a step is the year's own reckoning
-carbon-same : (f g : ℕ → ℕ → ℕ) (region : Region) (matrix : List ℕ) → ((i j : ℕ) → i < classes → j < classes → f i j ≡ g i j) → projectedCarbon f (region .areas) matrix ≡ projectedCarbon g (region .areas) matrix
+carbon-same : (f g : ℕ → ℕ → ℕ) (region : Region) (matrix : List ℕ) → ((i j : ℕ) → i < classes → j < classes → f i j ≡ g i j)
+    → projectedCarbon f (region .areas) matrix ≡ projectedCarbon g (region .areas) matrix
 unfolding projectedCarbon
 carbon-same f g region matrix h = sum2-cong classes _ _ (λ i j hi hj. rw (h i j hi hj))
 

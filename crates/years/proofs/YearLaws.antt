@@ -76,7 +76,8 @@ tables-summarized factor calendarYear days projectTotal beltTotal u =
     ∙ sym (bind-bind (conversions CP projectTotal u) _ _)
 
 -- ---- YR
-pub year-none : (factor : ℕ → ℕ → ℕ) (due left start beltstart : ℕ) (u : List ℕ) (n : ℕ) → left ≡ 0 → n ≡ numberOf (noneLeft {A = Unit {0}} u) → refused n ≡ summarizedYear factor due left start beltstart u
+pub year-none : (factor : ℕ → ℕ → ℕ) (due left start beltstart : ℕ) (u : List ℕ) (n : ℕ) → left ≡ 0 → n ≡ numberOf (noneLeft {A = Unit {0}} u)
+    → refused n ≡ summarizedYear factor due left start beltstart u
 unfolding summarizedYear yearLeft
 year-none factor due left start beltstart u n e g = bind-no (yearLeft due left start beltstart) _ u n (rw (eq-eqb left 0 e, g) (sym (none-left-is u)))
 
