@@ -15,6 +15,7 @@ use lib.Seq.{drop-drop}
 use mir.Syntax.{w64}
 use mir.Val.{SFits}
 use Rattle.classes.specs.declared.Grams.{Grams}
+use Rattle.classes.specs.Ranges.{greatestActivity}
 use Rattle.activity.specs.declared.Activity.{Activity}
 use Rattle.activity.specs.Activity.{ActivityInRange, ActivitiesInRange, activityGrams, activityEmissions}
 use Rattle.activity.proofs.ActivityLaws.{grams-le, emissions-le}
@@ -55,7 +56,7 @@ unfolding activityEmissions
 none-yet s = record { records = []; inRange = tt; summed = refl; counted = refl; few = omega arith; inside = omega arith; goesOn = refl }
 
 module _ {s : List ℕ} {at : ℕ} {grams : Grams} {count : ℕ} (l : SoFar s at grams count) where
-  pub small-sum : mag (grams .0) ≤ 240000000000000
+  pub small-sum : mag (grams .0) ≤ greatestActivity
   small-sum = rw (l .summed) (omega (arith, emissions-le (l .records) (l .inRange), l .counted, l .few))
 
   over : stands activityMark (drop at s) ≡ false → accepted grams (drop at s) ≡ summedActivities s

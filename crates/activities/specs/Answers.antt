@@ -6,6 +6,7 @@ use lib.IntN.{pos}
 use lib.Signed.{mag}
 use lib.ListN.{length, drop}
 use Rattle.classes.specs.declared.Grams.{Grams}
+use Rattle.classes.specs.Ranges.{greatestActivity}
 use Rattle.activity.specs.declared.Activity.{Activity}
 use Rattle.activity.specs.Activity.{activityEmissions}
 use Rattle.dossier.specs.Reader.{Judged, refused, accepted, Reader, _>>=_, give}
@@ -32,7 +33,7 @@ abbrev pub runSays : List ℕ → RunAnswer → Judged Grams
 runSays s (RunAnswer.Read grams next) = accepted grams (drop next s)
 runSays s (RunAnswer.Refused n) = refused n
 
--- what follows begins inside, and the sum is small: at most 4 × 10^12 for each of 60 records
+-- what follows begins inside, and the sum is that of at most 60 records
 abbrev pub runInside : List ℕ → RunAnswer → Type 0
-runInside s (RunAnswer.Read grams next) = (next ≤ length s) × (mag (grams .0) ≤ 240_000_000_000_000)
+runInside s (RunAnswer.Read grams next) = (next ≤ length s) × (mag (grams .0) ≤ greatestActivity)
 runInside s (RunAnswer.Refused n) = Unit {0}

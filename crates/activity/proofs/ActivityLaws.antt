@@ -9,6 +9,7 @@ use lib.ListN.{length}
 use Rattle.arithmetic.specs.Rounding.{ceilDiv}
 use Rattle.arithmetic.proofs.RoundingLaws.{ceilDiv-le}
 use Rattle.arithmetic.proofs.TableLaws.{all, all-at}
+use Rattle.classes.specs.Ranges.{greatestRecord}
 use Rattle.activity.specs.declared.Activity.{Activity}
 use Rattle.activity.specs.declared.Activity.the-variants.{Fuel, Vehicles, Nitrogen, Lime}
 use Rattle.activity.specs.Activity.{
@@ -34,10 +35,10 @@ n2oShare-le source crop h k = factor-le (λ s. n2oShare s crop) 1425 (all-at 3 (
 
 -- ---- a factor within its bound keeps the grams within theirs
 factor-grams-le : {grams factor greatest divisor : ℕ} → grams ≤ 1000000000000 → factor ≤ greatest → greatest ≤ 4 * divisor → 0 < divisor
-    → ceilDiv (grams * factor) divisor ≤ 4000000000000
+    → ceilDiv (grams * factor) divisor ≤ greatestRecord
 factor-grams-le g f b d = ceilDiv-le _ _ _ d (omega (arith, mul-le-mul g f))
 
-pub nitrogen-le : {nitrogen weight : ℕ} → nitrogen ≤ 100000000000000 → weight ≤ 4671150 → ceilDiv (nitrogen * weight) 7000000000 ≤ 4000000000000
+pub nitrogen-le : {nitrogen weight : ℕ} → nitrogen ≤ 100000000000000 → weight ≤ 4671150 → ceilDiv (nitrogen * weight) 7000000000 ≤ greatestRecord
 nitrogen-le n w = ceilDiv-le _ 7000000000 _ (lit≤ tt) (omega (arith, mul-le-mul n w))
 
 -- ---- records
@@ -48,7 +49,7 @@ denominator-pos (Vehicles kind count average rate) = lit≤ tt
 denominator-pos (Nitrogen source crop grams content) = lit≤ tt
 denominator-pos (Lime material grams) = lit≤ tt
 
-pub grams-le : (a : Activity) → ActivityInRange a → activityGrams a ≤ 4000000000000
+pub grams-le : (a : Activity) → ActivityInRange a → activityGrams a ≤ greatestRecord
 unfolding activityGrams numerator denominator all
 grams-le (Fuel kind grams) h = factor-grams-le (omega arith) (factor-le fuelFactor 318630 tt kind (h .0)) (lit≤ tt) (lit≤ tt)
 grams-le (Vehicles kind count average rate) h = factor-grams-le (omega arith) (factor-le fuelFactor 318630 tt kind (h .0)) (lit≤ tt) (lit≤ tt)
@@ -59,7 +60,7 @@ grams-le (Nitrogen source crop grams content) h =
     (nitrogen-le (omega (arith, mul-le-mul g c)) (omega (arith, n2oShare-le source crop (h .0) (h .1 .0))))
 grams-le (Lime material grams) h = factor-grams-le (omega arith) (factor-le limeFactor 220 tt material (h .0)) (lit≤ tt) (lit≤ tt)
 
-pub emissions-le : (records : List Activity) → ActivitiesInRange records → activityEmissions records ≤ 4000000000000 * length records
+pub emissions-le : (records : List Activity) → ActivitiesInRange records → activityEmissions records ≤ greatestRecord * length records
 unfolding activityEmissions
 emissions-le [] h = omega arith
 emissions-le (a ∷ rest) h = omega (arith, grams-le a (h .0), emissions-le rest (h .1))

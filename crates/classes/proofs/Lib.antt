@@ -3,3 +3,4 @@ pub mod FillLaws
 pub mod MatrixLaws
 pub mod CalendarLaws
 pub mod FactorLaws
+pub mod RangeLaws

@@ -7,11 +7,28 @@ use mathlib.Core.List.{List, [], _∷_, _++_, map, append-assoc, append-nil}
 use native.Mathlib.Omega.{arith}
 use lib.Dec.{lit<}
 use lib.ListN.{length}
+use Rattle.classes.specs.Ranges.{greatestArea}
 use Rattle.figures.specs.Year.{Year}
 use Rattle.figures.specs.Reckoning.{afterFigures, afterYear}
 use Rattle.wire.specs.Bytes.{Bytes, bytes, joined}
 use Rattle.dossier.specs.Marks.{YR, EN}
-use Rattle.dossier.specs.Records.{Opening, OpeningInRange, openingBytes, termsOf, stateOf, Due, settled, next, DueInRange, YearInRange, yearBytes, YearsInRange, Dossier, DossierInRange, dossierBytes}
+use Rattle.dossier.specs.Records.{
+  Opening,
+  OpeningInRange,
+  openingBytes,
+  termsOf,
+  stateOf,
+  Due,
+  settled,
+  next,
+  DueInRange,
+  YearInRange,
+  yearBytes,
+  YearsInRange,
+  Dossier,
+  DossierInRange,
+  dossierBytes,
+}
 use Rattle.dossier.specs.Reader.{accepted, after, _>>=_, _>>_, give, mark, is, stands, upon, nothing}
 use Rattle.dossier.specs.JudgingRecords.{activityMark}
 use Rattle.dossier.specs.Judging.{opening, noneLeft, year, end, years, dossier, openingPiece, yearPiece}
@@ -55,8 +72,8 @@ years-over (y ∷ l) t = unfold activityMark in rw years-cons (year-begins activ
 -- the next k years can be said in YR's 16 bits
 pub record Room (k : ℕ) (due : Due) : Type 0 where
   pub years : due .state .year + k ≤ 65536
-  pub start : due .terms .start .0 ≤ 1000000000000
-  pub beltstart : due .terms .beltstart .0 ≤ 1000000000000
+  pub start : due .terms .start .0 ≤ greatestArea
+  pub beltstart : due .terms .beltstart .0 ≤ greatestArea
 
 pub room-due : {k : ℕ} (due : Due) → Room (suc k) due → DueInRange due
 room-due due r = record { year = omega arith; start = r .start; beltstart = r .beltstart }

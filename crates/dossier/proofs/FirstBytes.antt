@@ -17,14 +17,14 @@ use Rattle.wire.proofs.BytesLaws.{bytes-take}
 use Rattle.dossier.proofs.OpeningLaws.{opening-exact}
 use Rattle.dossier.proofs.Longest.{longest}
 use Rattle.dossier.proofs.Walk.{openings, some-years}
-use Rattle.dossier.proofs.SettleSteps.{andLeft, SettledBy, settles, bind-alike, bind, given}
+use Rattle.dossier.proofs.SettleSteps.{andLeft, SettledBy, AnyCause, settles, bind-alike, bind, given}
 
 -- 780 + 20 × 3,216 + 6 bytes, for an opening read from bytes has at most 20 years
 dossier-alike : (s t : List ℕ) → Bytes s → 65106 ≤ length s → dossier (s ++ t) ≡ andLeft t (dossier s)
 unfolding dossier
-dossier-alike s t bs h = bind-alike _ (openings SettledBy settles) 64326 s t h (λ o u e l.
+dossier-alike s t bs h = bind-alike _ (openings AnyCause SettledBy settles (λ n h. tt)) 64326 s t h (λ o u e l.
     let n = opening-exact .only s bs (omega arith) o u e .1 .head .count .most in
-    bind (some-years SettledBy settles _ _ _) (λ ys. given _) .alike u t (omega arith))
+    bind (some-years AnyCause SettledBy settles (λ n h. tt) _ _ _) (λ ys. given _) .alike u t (omega arith))
 
 -- none so long is accepted
 long-alike : (s t : List ℕ) → Bytes s → 65106 ≤ length s → dossier (s ++ t) ≡ dossier s

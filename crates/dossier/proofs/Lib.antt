@@ -14,6 +14,7 @@ pub mod DossierLaws
 pub mod Places
 pub mod WellFormed
 pub mod Longest
+pub mod CauseLaws
 pub mod Walk
 pub mod SettleSteps
 pub mod FirstBytes

@@ -20,7 +20,28 @@ use Rattle.figures.specs.Year.{Year}
 use Rattle.figures.specs.Reckoning.{afterFigures, afterYear}
 use Rattle.wire.specs.Bytes.{Bytes, bytes, bytesOfEach, joined, total}
 use Rattle.dossier.specs.Layouts.{activityBytes}
-use Rattle.dossier.specs.Records.{headBytes, areasBytes, matrixBytes, MatrixUnder, Opening, OpeningInRange, optionBytes, openingBytes, termsOf, stateOf, Due, settled, next, conversionsBytes, YearInRange, yearBytes, YearsInRange, Dossier, DossierInRange, dossierBytes}
+use Rattle.dossier.specs.Records.{
+  headBytes,
+  areasBytes,
+  matrixBytes,
+  MatrixUnder,
+  Opening,
+  OpeningInRange,
+  optionBytes,
+  openingBytes,
+  termsOf,
+  stateOf,
+  Due,
+  settled,
+  next,
+  conversionsBytes,
+  YearInRange,
+  yearBytes,
+  YearsInRange,
+  Dossier,
+  DossierInRange,
+  dossierBytes,
+}
 use Rattle.dossier.specs.Reader.{accepted}
 use Rattle.dossier.specs.Judging.{dossier}
 use Rattle.wire.proofs.BytesLaws.{length-bytes, length-each}
@@ -148,4 +169,6 @@ longest-accepted = (dossier-accepted .complete longestDossier in-range, size)
     in-range = unfold settled termsOf stateOf total in record { opening = opened; count = refl; years = longest-years 20 (settled (longestDossier .opening)) refl refl refl }
 
     size : length (dossierBytes longestDossier) ≡ 65062
-    size = unfold listed deforestationProbabilities optionOne optionOneMatrix bytes bytesOfEach joined headBytes areasBytes matrixBytes optionBytes openingBytes conversionsBytes activityBytes yearBytes dossierBytes in refl
+    size =
+        unfold listed deforestationProbabilities optionOne optionOneMatrix bytes bytesOfEach joined in
+        unfold headBytes areasBytes matrixBytes optionBytes openingBytes conversionsBytes activityBytes yearBytes dossierBytes in refl

@@ -6,6 +6,7 @@ use mathlib.Core.List.{List, append-nil}
 use native.Mathlib.Omega.{arith}
 use lib.Dec.{lit<}
 use lib.ListN.{length-append}
+use Rattle.classes.specs.Ranges.{greatestArea}
 use Rattle.wire.specs.Bytes.{joined}
 use Rattle.dossier.specs.Records.{Head, HeadInRange, headBytes, AreasInRange, areasBytes, ConversionsInRange, conversionsBytes}
 use Rattle.dossier.specs.JudgingRecords.{head, areas, conversions}
@@ -37,7 +38,7 @@ areas-exact m least h =
     done xs (tt, refl) (λ t. record { twelve = n; totals = k }) (λ ys t c p. c .1))))
 
 -- CP, CD
-pub conversions-exact : (m settledTotal : ℕ) → m < 65536 → settledTotal ≤ 1000000000000
+pub conversions-exact : (m settledTotal : ℕ) → m < 65536 → settledTotal ≤ greatestArea
     → Exact 0 Any (conversions m settledTotal) (conversionsBytes m) (λ (xs t : List ℕ). ConversionsInRange settledTotal xs)
 unfolding conversions conversionsBytes joined
 conversions-exact m settledTotal h g =

@@ -38,7 +38,8 @@ activities-are before s = go (ltb (length before) 60) (ltb-true _ _) (ltb-false 
     go : (b : Bool) → (b ≡ true → length before < 60) → (b ≡ false → 60 ≤ length before)
         → activities before s ≡ upon activityMark (cond b (activity >>= λ a. activities (before ++ (a ∷ []))) (refuse 9)) (give before) s
     go true h k =
-        unfold activities run in rw (some (h refl)) (ap (λ (f : Activity → Reader (List Activity)). upon activityMark (activity >>= f) (give before) s) (λ i a. run (one-less (h refl) a i) (before ++ (a ∷ []))))
+        unfold activities run in
+        rw (some (h refl)) (ap (λ (f : Activity → Reader (List Activity)). upon activityMark (activity >>= f) (give before) s) (λ i a. run (one-less (h refl) a i) (before ++ (a ∷ []))))
     go false h k = unfold activities run in rw (full (k refl))
 
 pub activities-step : (before : List Activity) (s : List ℕ) {a : Activity} {u : List ℕ} → length before < 60 → stands activityMark s ≡ true → activity s ≡ accepted a u

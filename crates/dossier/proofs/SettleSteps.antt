@@ -128,7 +128,11 @@ nothings = instead (more (refusal 2) (omega arith)) (λ s h. rw (lt-ltb 0 (lengt
 abbrev pub SettledBy : (A : Type 0) → ℕ → Reader A → Type 0
 SettledBy A m r = Settles m r
 
-pub settles : Closed SettledBy
+-- whatever the causes
+abbrev pub AnyCause : ℕ → Type 0
+AnyCause n = Unit {0}
+
+pub settles : Closed AnyCause SettledBy
 settles = record {
   bind = λ x y. bind x y;
   more = λ x h. more x h;

@@ -6,11 +6,24 @@ use mathlib.Core.Bool.{Bool, true, false, cond}
 use mathlib.Core.Option.{none}
 use mathlib.Core.List.{List, [], _∷_, _++_}
 use native.Mathlib.Omega.{arith}
-use lib.Dec.{eqb}
+use lib.Dec.{T, eqb}
 use Rattle.activity.specs.declared.Activity.{Activity}
-use Rattle.activity.specs.Activity.{Within, Range, ranges}
+use Rattle.activity.specs.Activity.{Range, ranges}
 use Rattle.figures.specs.Year.{Year}
 use Rattle.wire.specs.Bytes.{total}
+use Rattle.dossier.specs.Causes.{
+  markNotDue,
+  headOutOfRange,
+  areaTotalWrong,
+  rowSumWrong,
+  yearWrong,
+  conversionTotalWrong,
+  activityOutOfRange,
+  tooManyActivities,
+  openingCauses,
+  yearCauses,
+  _∈_,
+}
 use Rattle.dossier.specs.Marks.{YR, EN}
 use Rattle.dossier.specs.Layouts.{Made, Layout, layouts}
 use Rattle.dossier.specs.Records.{Due, next}
@@ -18,21 +31,18 @@ use Rattle.dossier.specs.Reader.{Reader, _>>=_, _>>_, give, refuse, mark
 use Rattle.dossier.specs.JudgingRecords.{head, areas, rows, matrix, matrixUnder, conversions, inRange, madeFrom, fieldsOf, rowUnder, activityMark, activityUnder, activity}
 use Rattle.dossier.specs.Judging.{opening, run, activities, noneLeft, yearRecords, yearLeft, year, end, years}
 use Rattle.dossier.proofs.ReaderLaws.{bind-bind}
+use Rattle.dossier.proofs.CauseLaws.{member, listed}
 use Rattle.dossier.proofs.LayoutLaws.{longestRecord}
 use Rattle.dossier.proofs.ActivityLaws.{AllRight, all-right}
 
--- the causes of bytes have the numbers 1 to 9
-abbrev pub Cause : ℕ → Type 0
-Cause n = Within 1 n 9
-
--- P m r: the reader r, which m bytes are enough for, has P. What P has to have:
-pub record Closed (P : (A : Type 0) → ℕ → Reader A → Type 0) : Type 1 where
+-- P m r: the reader r, which m bytes are enough for and which refuses for allowed causes alone, has P. What P has to have:
+pub record Closed (Allowed : ℕ → Type 0) (P : (A : Type 0) → ℕ → Reader A → Type 0) : Type 1 where
   pub bind : {A B : Type 0} {m n : ℕ} {r : Reader A} {k : A → Reader B} → P _ m r → ((a : A) → P _ n (k a)) → P _ (m + n) (r >>= k)
   pub more : {A : Type 0} {m n : ℕ} {r : Reader A} → P _ m r → m ≤ n → P _ n r
   pub choice : {A : Type 0} {m : ℕ} {r q : Reader A} (kind : ℕ → Bool) → P _ m r → P _ m q → 2 ≤ m → P _ m (upon kind r q)
   pub present : {A : Type 0} {m n : ℕ} {r : Reader A} → P _ m r → n ≤ m → P _ m (present n >> r)
   pub give : {A : Type 0} (a : A) → P _ 0 (give a)
-  pub refuse : {A : Type 0} (n : ℕ) → Cause n → P _ 0 (refuse {A = A} n)
+  pub refuse : {A : Type 0} (n : ℕ) → Allowed n → P _ 0 (refuse {A = A} n)
   pub field : (w : ℕ) → P _ w (field w)
   pub fields : (k w : ℕ) → P _ (k * w) (fields k w)
   pub mark : (m : ℕ) → P _ 2 (mark m)
@@ -43,7 +53,7 @@ begin-then : {A : Type 0} (m n : ℕ) (r : Reader A) → _≡_ {A = Reader A} (b
 unfolding begin _>>_
 begin-then m n r = λ i s. bind-bind (mark m s) (λ _. present n) (λ _. r) i
 
-module _ (P : (A : Type 0) → ℕ → Reader A → Type 0) (c : Closed P) where
+module _ (Allowed : ℕ → Type 0) (P : (A : Type 0) → ℕ → Reader A → Type 0) (c : Closed Allowed P) where
   -- ---- the other steps
   seq : {A B : Type 0} {m n : ℕ} {r : Reader A} {q : Reader B} → P _ m r → P _ n q → P _ (m + n) (r >> q)
   unfolding _>>_ _>>=_
@@ -57,11 +67,11 @@ module _ (P : (A : Type 0) → ℕ → Reader A → Type 0) (c : Closed P) where
   tested true x y = x
   tested false x y = y
 
-  withins : (n low x high : ℕ) → Cause n → P _ 0 (within n low x high)
+  withins : (n low x high : ℕ) → Allowed n → P _ 0 (within n low x high)
   unfolding within refuse give
   withins n low x high h = tested (outside low x high) (c .refuse n h) (c .give tt)
 
-  equals : (n x y : ℕ) → Cause n → P _ 0 (equal n x y)
+  equals : (n x y : ℕ) → Allowed n → P _ 0 (equal n x y)
   unfolding equal refuse give
   equals n x y h = tested (eqb x y) (c .give tt) (c .refuse n h)
 
@@ -72,77 +82,86 @@ module _ (P : (A : Type 0) → ℕ → Reader A → Type 0) (c : Closed P) where
   a-record : {A : Type 0} {n : ℕ} {r : Reader A} (m : ℕ) → P _ n r → P _ (2 + n) (begin m n >> r)
   a-record m x = begins m x (omega arith)
 
-  -- ---- the opening
-  heads : P _ 6 head
-  unfolding head
-  heads =
-      a-record _ (c .bind (c .field 1) (λ o. c .bind (c .field 2) (λ f. c .bind (c .field 1) (λ y.
-      seq (withins _ _ _ _ (omega arith)) (seq (withins _ _ _ _ (omega arith)) (seq (withins _ _ _ _ (omega arith)) (c .give _)))))))
+  -- ---- the opening, where its own causes are allowed
+  module _ (own : (n : ℕ) → n ∈ openingCauses → Allowed n) where
+    of-opening : {n : ℕ} → T (member n openingCauses) → Allowed n
+    of-opening {n} t = own n (listed n openingCauses t)
 
-  some-areas : (m least : ℕ) → P _ 98 (areas m least)
-  unfolding areas
-  some-areas m least = a-record _ (c .bind (c .fields 12 8) (λ xs. seq (withins _ _ _ _ (omega arith)) (c .give _)))
+    heads : P _ 6 head
+    unfolding head
+    heads =
+        a-record _ (c .bind (c .field 1) (λ o. c .bind (c .field 2) (λ f. c .bind (c .field 1) (λ y.
+        seq (withins headOutOfRange _ _ _ (of-opening tt)) (seq (withins headOutOfRange _ _ _ (of-opening tt)) (seq (withins headOutOfRange _ _ _ (of-opening tt)) (c .give _)))))))
 
-  some-rows : (k : ℕ) (xs : List ℕ) → P _ 0 (rows k xs)
-  unfolding rows
-  some-rows zero xs = c .give tt
-  some-rows (suc k) xs = seq (some-rows k xs) (equals _ _ _ (omega arith))
+    some-areas : (m least : ℕ) → P _ 98 (areas m least)
+    unfolding areas
+    some-areas m least = a-record _ (c .bind (c .fields 12 8) (λ xs. seq (withins areaTotalWrong _ _ _ (of-opening tt)) (c .give _)))
 
-  under : (option : ℕ) → P _ 578 (matrixUnder option)
-  unfolding matrixUnder matrix
-  under option =
-      one-of (eqb option 2) (c .bind (a-record _ (c .bind (c .fields 144 4) (λ xs. seq (some-rows _ xs) (c .give _)))) (λ xs. c .give _))
-      (c .more (c .give none) (omega arith))
+    some-rows : (k : ℕ) (xs : List ℕ) → P _ 0 (rows k xs)
+    unfolding rows
+    some-rows zero xs = c .give tt
+    some-rows (suc k) xs = seq (some-rows k xs) (equals rowSumWrong _ _ (of-opening tt))
 
-  pub openings : P _ 780 opening
-  unfolding opening
-  openings = c .bind heads (λ h. c .bind (some-areas _ _) (λ p. c .bind (some-areas _ _) (λ b. c .bind (under (h .option)) (λ m. c .give _))))
+    under : (option : ℕ) → P _ 578 (matrixUnder option)
+    unfolding matrixUnder matrix
+    under option =
+        one-of (eqb option 2) (c .bind (a-record _ (c .bind (c .fields 144 4) (λ xs. seq (some-rows _ xs) (c .give _)))) (λ xs. c .give _))
+        (c .more (c .give none) (omega arith))
 
-  -- ---- activity records: any row of the table, any table, and k of them with the mark after them
-  in-range : (rs : List Range) (a : Activity) → P _ 0 (inRange rs a)
-  unfolding inRange
-  in-range [] a = c .give a
-  in-range (r ∷ rest) a = seq (withins 8 _ _ _ (omega arith)) (in-range rest a)
+    pub openings : P _ 780 opening
+    unfolding opening
+    openings = c .bind heads (λ h. c .bind (some-areas _ _) (λ p. c .bind (some-areas _ _) (λ b. c .bind (under (h .option)) (λ m. c .give _))))
 
-  made-from : (widths : List ℕ) (made : Made widths) → P _ (total widths) (madeFrom widths made)
-  unfolding total
-  made-from [] a = in-range (ranges a) a
-  made-from (w ∷ widths) made = c .bind (c .field w) (λ x. made-from widths (made x))
+  -- ---- the years, where their own causes are allowed
+  module _ (own : (n : ℕ) → n ∈ yearCauses → Allowed n) where
+    of-year : {n : ℕ} → T (member n yearCauses) → Allowed n
+    of-year {n} t = own n (listed n yearCauses t)
 
-  some-row : (table : List Layout) → AllRight table → (m : ℕ) → P _ (longestRecord - 2) (rowUnder table m)
-  unfolding fieldsOf
-  some-row [] f m = c .more (c .refuse 2 (omega arith)) (omega arith)
-  some-row (l ∷ rest) f m =
-      one-of (is (l .mark) m) (c .more (c .present (made-from (l .widths) (l .made)) (omega arith)) (omega (arith, f .0 .short))) (some-row rest (f .1) m)
+    -- activity records: any row of the table, any table, and k of them with the mark after them
+    in-range : (rs : List Range) (a : Activity) → P _ 0 (inRange rs a)
+    unfolding inRange
+    in-range [] a = c .give a
+    in-range (r ∷ rest) a = seq (withins activityOutOfRange _ _ _ (of-year tt)) (in-range rest a)
 
-  an-activity : P _ longestRecord activity
-  unfolding activity activityUnder
-  an-activity = c .present (c .bind (c .field 2) (some-row layouts all-right)) (omega arith)
+    made-from : (widths : List ℕ) (made : Made widths) → P _ (total widths) (madeFrom widths made)
+    unfolding total
+    made-from [] a = in-range (ranges a) a
+    made-from (w ∷ widths) made = c .bind (c .field w) (λ x. made-from widths (made x))
 
-  runs : (k : ℕ) (before : List Activity) → P _ (k * longestRecord + 2) (run k before)
-  unfolding run
-  runs zero before = c .choice activityMark (c .more (c .refuse 9 (omega arith)) (omega arith)) (c .more (c .give before) (omega arith)) (omega arith)
-  runs (suc k) before =
-      c .choice activityMark (c .more (c .bind an-activity (λ a. runs k (before ++ (a ∷ [])))) (omega arith)) (c .more (c .give before) (omega arith)) (omega arith)
+    some-row : (table : List Layout) → AllRight table → (m : ℕ) → P _ (longestRecord - 2) (rowUnder table m)
+    unfolding fieldsOf
+    some-row [] f m = c .more (c .refuse markNotDue (of-year tt)) (omega arith)
+    some-row (l ∷ rest) f m =
+        one-of (is (l .mark) m) (c .more (c .present (made-from (l .widths) (l .made)) (omega arith)) (omega (arith, f .0 .short))) (some-row rest (f .1) m)
 
-  -- ---- the years
-  none-lefts : {A : Type 0} → P _ 6 (noneLeft {A = A})
-  unfolding noneLeft
-  none-lefts = a-record _ (c .more (c .refuse 6 (omega arith)) (omega arith))
+    an-activity : P _ longestRecord activity
+    unfolding activity activityUnder
+    an-activity = c .present (c .bind (c .field 2) (some-row layouts all-right)) (omega arith)
 
-  some-conversions : (m settledTotal : ℕ) → P _ 1154 (conversions m settledTotal)
-  unfolding conversions
-  some-conversions m settledTotal = a-record _ (c .bind (c .fields 144 8) (λ xs. seq (equals _ _ _ (omega arith)) (c .give _)))
+    runs : (k : ℕ) (before : List Activity) → P _ (k * longestRecord + 2) (run k before)
+    unfolding run
+    runs zero before =
+        c .choice activityMark (c .more (c .refuse tooManyActivities (of-year tt)) (omega arith)) (c .more (c .give before) (omega arith)) (omega arith)
+    runs (suc k) before =
+        c .choice activityMark (c .more (c .bind an-activity (λ a. runs k (before ++ (a ∷ [])))) (omega arith)) (c .more (c .give before) (omega arith)) (omega arith)
 
-  pub a-year : (due : Due) → P _ 3216 (year due)
-  unfolding year yearLeft yearRecords activities
-  a-year due =
-      one-of (eqb (due .state .left) 0) (c .more none-lefts (omega arith))
-      (begins _ (c .bind (c .field 2) (λ y. c .bind (c .field 2) (λ d. seq (equals _ _ _ (omega arith)) (seq (withins _ _ _ _ (omega arith))
-      (c .bind (some-conversions _ _) (λ p. c .bind (some-conversions _ _) (λ b. c .bind (runs 60 []) (λ l. c .give _)))))))) (omega arith))
+    none-lefts : {A : Type 0} → P _ 6 (noneLeft {A = A})
+    unfolding noneLeft
+    none-lefts = a-record _ (c .more (c .refuse yearWrong (of-year tt)) (omega arith))
 
-  -- k years; then EN and a byte after it, or YR with its fields
-  pub some-years : (k : ℕ) (due : Due) (before : List Year) → P _ (k * 3216 + 6) (years k due before)
-  unfolding years end
-  some-years zero due before = seq (c .choice (is YR) none-lefts (c .more (seq (c .mark EN) (c .nothing)) (omega arith)) (omega arith)) (c .give before)
-  some-years (suc k) due before = c .more (c .bind (a-year due) (λ y. some-years k (next y due) (before ++ (y ∷ [])))) (omega arith)
+    some-conversions : (m settledTotal : ℕ) → P _ 1154 (conversions m settledTotal)
+    unfolding conversions
+    some-conversions m settledTotal = a-record _ (c .bind (c .fields 144 8) (λ xs. seq (equals conversionTotalWrong _ _ (of-year tt)) (c .give _)))
+
+    pub a-year : (due : Due) → P _ 3216 (year due)
+    unfolding year yearLeft yearRecords activities
+    a-year due =
+        one-of (eqb (due .state .left) 0) (c .more none-lefts (omega arith))
+        (begins _ (c .bind (c .field 2) (λ y. c .bind (c .field 2) (λ d. seq (equals yearWrong _ _ (of-year tt)) (seq (withins yearWrong _ _ _ (of-year tt))
+        (c .bind (some-conversions _ _) (λ p. c .bind (some-conversions _ _) (λ b. c .bind (runs 60 []) (λ l. c .give _)))))))) (omega arith))
+
+    -- k years; then EN and a byte after it, or YR with its fields
+    pub some-years : (k : ℕ) (due : Due) (before : List Year) → P _ (k * 3216 + 6) (years k due before)
+    unfolding years end
+    some-years zero due before = seq (c .choice (is YR) none-lefts (c .more (seq (c .mark EN) (c .nothing)) (omega arith)) (omega arith)) (c .give before)
+    some-years (suc k) due before = c .more (c .bind (a-year due) (λ y. some-years k (next y due) (before ++ (y ∷ [])))) (omega arith)

@@ -70,7 +70,8 @@ year-exact due h = go (eqb (due .state .left) 0) (eqb-true _ _) (eqb-false _ _)
       only = λ s bs l y t q. absurd (none-left-only s bs y t q);
     }
 
-    go : (b : Bool) → (b ≡ true → due .state .left ≡ 0) → (b ≡ false → due .state .left ≡ 0 → ⊥) → Exact 0 Any (cond b noneLeft (yearRecords (due .state .year) (due .terms .start .0) (due .terms .beltstart .0))) yearBytes (YearThen due)
+    go : (b : Bool) → (b ≡ true → due .state .left ≡ 0) → (b ≡ false → due .state .left ≡ 0 → ⊥)
+        → Exact 0 Any (cond b noneLeft (yearRecords (due .state .year) (due .terms .start .0) (due .terms .beltstart .0))) yearBytes (YearThen due)
     go true e f = none (e refl)
     go false e f = year-due-exact due h (some (f refl))
 

@@ -9,6 +9,7 @@ use lib.ListN.{length}
 use Rattle.classes.specs.Calendar.{daysInYear}
 use Rattle.activity.specs.declared.Activity.{Activity}
 use Rattle.figures.specs.Year.{Year}
+use Rattle.dossier.specs.Causes.{yearWrong, tooManyActivities}
 use Rattle.dossier.specs.Marks.{PA, DA, YR, CP, CD, EN}
 use Rattle.dossier.specs.Records.{Opening, Due, settled, next, Dossier}
 use Rattle.dossier.specs.Reader.{Judged, refused, accepted, Reader, _>>=_, _>>_, give, refuse, mark, is, upon, begin, field, within, equal, nothing, endOfPiece}
@@ -26,7 +27,7 @@ opening = do
 -- a year's activity records: those before are read already, up to `more` may follow. "61st activity record of a year": 9, which its mark alone
 -- decides, before bytes missing
 unfoldable pub run : ℕ → List Activity → Reader (List Activity)
-run zero before = upon activityMark (refuse 9) (give before)
+run zero before = upon activityMark (refuse tooManyActivities) (give before)
 run (suc more) before = upon activityMark (do a ← activity; run more (before ++ (a ∷ []))) (give before)
 
 -- "0 to 60 activity records", those before among them; activities-are in proofs/RunLaws is its equation without a count
@@ -37,7 +38,7 @@ activities before = run (60 - length before) before
 unfoldable pub noneLeft : {A : Type 0} → Reader A
 noneLeft = do
   begin YR 4
-  refuse 6
+  refuse yearWrong
 
 -- "year not the next, none left, or d wrong": 6; the records of the year that is due, for the totals of PA and DA
 unfoldable pub yearRecords : (dueYear start beltstart : ℕ) → Reader Year
@@ -45,8 +46,8 @@ yearRecords dueYear start beltstart = do
   begin YR 4
   calendarYear ← field 2
   days ← field 2
-  equal 6 calendarYear dueYear
-  within 6 1 days (daysInYear calendarYear)
+  equal yearWrong calendarYear dueYear
+  within yearWrong 1 days (daysInYear calendarYear)
   project ← conversions CP start
   belt ← conversions CD beltstart
   records ← activities []

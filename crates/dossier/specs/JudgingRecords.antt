@@ -8,40 +8,42 @@ use lib.Dec.{eqb}
 use Rattle.arithmetic.specs.Sum.{sum}
 use Rattle.classes.specs.Classes.{classes}
 use Rattle.classes.specs.Matrix.{entry, million}
+use Rattle.classes.specs.Ranges.{greatestArea}
 use Rattle.activity.specs.declared.Activity.{Activity}
 use Rattle.activity.specs.Activity.{Range, ranges}
 use Rattle.wire.specs.Bytes.{total}
+use Rattle.dossier.specs.Causes.{markNotDue, headOutOfRange, areaTotalWrong, rowSumWrong, conversionTotalWrong, activityOutOfRange}
 use Rattle.dossier.specs.Marks.{HD, MP}
 use Rattle.dossier.specs.Layouts.{Made, Layout, layouts}
 use Rattle.dossier.specs.Records.{Head}
 use Rattle.dossier.specs.Reader.{Reader, _>>=_, _>>_, give, refuse, is, present, begin, field, fields, within, equal}
 
--- "HD field out of range": 3
+-- HD: each field in its range
 unfoldable pub head : Reader Head
 head = do
   begin HD 4
   option ← field 1
   firstYear ← field 2
   years ← field 1
-  within 3 1 option 2
-  within 3 2000 firstYear 2200
-  within 3 1 years 20
+  within headOutOfRange 1 option 2
+  within headOutOfRange 2000 firstYear 2200
+  within headOutOfRange 1 years 20
   give (record { option = option; firstYear = firstYear; years = years })
 
--- "PA or DA total wrong": 4
+-- PA or DA: its total in range
 unfoldable pub areas : ℕ → ℕ → Reader (List ℕ)
 areas m least = do
   begin m 96
   xs ← fields 12 8
-  within 4 least (total xs) 1000000000000
+  within areaTotalWrong least (total xs) greatestArea
   give xs
 
--- "MP row sum wrong": 5, for one of the first k rows
+-- MP: the sums of the first k rows
 unfoldable pub rows : ℕ → List ℕ → Reader (Unit {0})
 rows zero xs = give tt
 rows (suc k) xs = do
   rows k xs
-  equal 5 (sum classes (entry xs k)) million
+  equal rowSumWrong (sum classes (entry xs k)) million
 
 unfoldable pub matrix : Reader (List ℕ)
 matrix = do
@@ -54,19 +56,19 @@ matrix = do
 unfoldable pub matrixUnder : ℕ → Reader (Option (List ℕ))
 matrixUnder option = cond (eqb option 2) (do xs ← matrix; give (some xs)) (give none)
 
--- "CP or CD total wrong": 7
+-- CP or CD: its total the settled one
 unfoldable pub conversions : ℕ → ℕ → Reader (List ℕ)
 conversions m settledTotal = do
   begin m 1152
   xs ← fields 144 8
-  equal 7 (total xs) settledTotal
+  equal conversionTotalWrong (total xs) settledTotal
   give xs
 
--- "activity field, or VE product, out of range": 8; a record whose numbers are all in range
+-- "activity field, or VE product": a record whose numbers are all in range
 unfoldable pub inRange : List Range → Activity → Reader Activity
 inRange [] a = give a
 inRange (r ∷ rest) a = do
-  within 8 (r .low) (r .number) (r .high)
+  within activityOutOfRange (r .low) (r .number) (r .high)
   inRange rest a
 
 -- the fields of these widths, and the record that their numbers make
@@ -89,7 +91,7 @@ markOf (l ∷ rest) m = cond (is (l .mark) m) true (markOf rest m)
 
 -- after the mark m, a record of the row that has it
 abbrev pub rowUnder : List Layout → ℕ → Reader Activity
-rowUnder [] m = refuse 2
+rowUnder [] m = refuse markNotDue
 rowUnder (l ∷ rest) m = cond (is (l .mark) m) (fieldsOf l) (rowUnder rest m)
 
 -- the mark of an activity record, and an activity record after its mark
@@ -99,7 +101,7 @@ activityMark m = markOf layouts m
 unfoldable pub activityUnder : ℕ → Reader Activity
 activityUnder m = rowUnder layouts m
 
--- an activity record: 1 where its mark is cut, 2 where that is none of these
+-- an activity record: its mark may be cut, or none of these
 unfoldable pub activity : Reader Activity
 activity = do
   present 2

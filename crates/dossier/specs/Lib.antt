@@ -1,3 +1,4 @@
+pub mod Causes
 pub mod Marks
 pub mod Layouts
 pub mod Records

@@ -7,6 +7,7 @@ use mathlib.Core.List.{List}
 use lib.Dec.{ltb, eqb}
 use lib.ListN.{length, take, drop}
 use Rattle.wire.specs.Bytes.{number, numbers}
+use Rattle.dossier.specs.Causes.{bytesMissing, markNotDue}
 
 infixr 10 _>>=_ _>>_
 pub data Judged (A : Type 0) : Type 0 where
@@ -41,9 +42,9 @@ give a s = accepted a s
 unfoldable pub refuse : {A : Type 0} → ℕ → Reader A
 refuse n s = refused n
 
--- the mark m is due: 1 where "bytes end before or inside a mark still needed", 2 for a "mark not due here"
+-- the mark m is due: "bytes end before or inside a mark still needed", or "mark not due here"
 unfoldable pub mark : ℕ → Reader (Unit {0})
-mark m s = cond (ltb (length s) 2) (refused 1) (cond (eqb (number (take 2 s)) m) (accepted tt (drop 2 s)) (refused 2))
+mark m s = cond (ltb (length s) 2) (refused bytesMissing) (cond (eqb (number (take 2 s)) m) (accepted tt (drop 2 s)) (refused markNotDue))
 
 -- whether a mark of some kind stands here
 unfoldable pub stands : (ℕ → Bool) → List ℕ → Bool
@@ -57,9 +58,9 @@ is m x = eqb x m
 unfoldable pub upon : {A : Type 0} → (ℕ → Bool) → Reader A → Reader A → Reader A
 upon kind r q s = cond (stands kind s) (r s) (q s)
 
--- 1 where bytes end "inside a record": fewer than n are left
+-- "or inside a record": fewer than n bytes are left
 unfoldable pub present : ℕ → Reader (Unit {0})
-present n s = cond (ltb (length s) n) (refused 1) (accepted tt s)
+present n s = cond (ltb (length s) n) (refused bytesMissing) (accepted tt s)
 
 -- a record with n bytes of fields: its mark, then bytes missing, and the fields only after these
 unfoldable pub begin : ℕ → ℕ → Reader (Unit {0})
@@ -89,8 +90,8 @@ equal n x y s = cond (eqb x y) (accepted tt s) (refused n)
 
 -- "nothing after it": any byte more is 2
 unfoldable pub nothing : Reader (Unit {0})
-nothing s = cond (ltb 0 (length s)) (refused 2) (accepted tt s)
+nothing s = cond (ltb 0 (length s)) (refused markNotDue) (accepted tt s)
 
 -- the end of a piece: "a lone byte left over there is 1, any mark beyond the piece 2"
 unfoldable pub endOfPiece : Reader (Unit {0})
-endOfPiece s = cond (eqb (length s) 1) (refused 1) (nothing s)
+endOfPiece s = cond (eqb (length s) 1) (refused bytesMissing) (nothing s)

@@ -11,6 +11,7 @@ use Rattle.classes.specs.declared.AreaUnits.{AreaUnits}
 use Rattle.classes.specs.Classes.{carbonStocks}
 use Rattle.classes.specs.Matrix.{RowsSum, optionOneMatrix}
 use Rattle.classes.specs.Calendar.{daysInYear}
+use Rattle.classes.specs.Ranges.{greatestArea}
 use Rattle.projection.specs.Projection.{openedRegion}
 use Rattle.activity.specs.Activity.{Within, ActivitiesInRange}
 use Rattle.figures.specs.declared.Terms.{Terms}
@@ -38,7 +39,7 @@ headBytes h = joined (bytes 2 HD ∷ bytes 1 (h .option) ∷ bytes 2 (h .firstYe
 -- "PA, DA: 12 areas of 64 bits, project then belt. Each total is at most 10^12; the project's is at least 1, the belt's may be 0" (least)
 pub record AreasInRange (least : ℕ) (areas : List ℕ) : Type 0 where
   pub twelve : length areas ≡ 12
-  pub totals : Within least (total areas) 1000000000000
+  pub totals : Within least (total areas) greatestArea
 
 unfoldable pub areasBytes : ℕ → List ℕ → List ℕ
 areasBytes m areas = joined (bytes 2 m ∷ bytesOfEach 8 areas ∷ [])
@@ -133,8 +134,8 @@ next y due = record { terms = due .terms; state = afterYear (due .terms) y (due 
 -- what is due can be said in a year piece: the year in 16 bits, totals of PA and DA in range
 pub record DueInRange (due : Due) : Type 0 where
   pub year : due .state .year < 65536
-  pub start : due .terms .start .0 ≤ 1000000000000
-  pub beltstart : due .terms .beltstart .0 ≤ 1000000000000
+  pub start : due .terms .start .0 ≤ greatestArea
+  pub beltstart : due .terms .beltstart .0 ≤ greatestArea
 
 -- "CP and CD, 144 conversions of 64 bits each, diagonal included, whose sum is the total of PA or DA" (sum)
 pub record ConversionsInRange (sum : ℕ) (conversions : List ℕ) : Type 0 where

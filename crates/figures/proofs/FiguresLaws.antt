@@ -2,16 +2,13 @@
 -- Assumes nothing.
 use mathlib.Core.Path.{_≡_}
 use mathlib.Core.List.{List}
-use Prim.Native.Nat.{ℕ, suc, _+_, _*_, _/_, _^_, _≤_, _<_}
+use Prim.Native.Nat.{ℕ, suc, _+_, _*_, _/_, _≤_, _<_}
 use native.Mathlib.Nat.{le-trans, le-of-eq, mul-le-mul, mul-le-mul-left, mul-le-mul-right, div-le-of-le-mul}
 use native.Mathlib.Omega.{arith}
 use lib.Dec.{lit≤}
 use lib.IntN.{ℤ, pos, negsuc, _-ℤ_}
 use lib.Signed.{mag}
 use lib.ListN.{getD}
-use mir.Syntax.{w64}
-use mir.Val.{SFits}
-use borrow.Author.Needs.{sfits-of}
 use Rattle.arithmetic.specs.Sum.{sum}
 use Rattle.arithmetic.specs.Rounding.{floorDiv, positivePart}
 use Rattle.arithmetic.proofs.SumLaws.{sum-rows, sum2-le, sum2-mul}
@@ -20,6 +17,7 @@ use Rattle.arithmetic.proofs.IntegerLaws.{mag-minus}
 use Rattle.classes.specs.Classes.{classes}
 use Rattle.classes.specs.Matrix.{entry}
 use Rattle.classes.specs.Calendar.{daysInYear}
+use Rattle.classes.specs.Ranges.{greatestArea, greatestEmissions, greatestActivity, greatestFigure}
 use Rattle.classes.proofs.CalendarLaws.{days-range}
 use Rattle.projection.specs.declared.Region.{Region}
 use Rattle.projection.specs.Projection.{areaTotal, projectedCarbon}
@@ -29,11 +27,7 @@ use Rattle.figures.specs.declared.Figures.{Figures}
 use Rattle.figures.specs.declared.YearCarbon.{YearCarbon}
 use Rattle.figures.specs.Figures.{referenceLevel, monitoredCarbon, stockChangeEmissions, displacedEmissions, reductionOf, creditedOf, figuresOf}
 use Rattle.figures.specs.Carbon.{carbonFigures}
-use Rattle.figures.specs.Ranges.{SmallCarbon, SmallYear, SmallTable, SmallGrams, DaysOf}
-
--- a number far within 64 bits fits them
-pub within : {z : ℤ} → mag z < 2 ^ 56 → SFits w64 z
-within h = sfits-of (omega arith)
+use Rattle.figures.specs.Ranges.{SmallCarbon, SmallYear, SmallTable, DaysOf}
 
 -- the carbon of all conversions, place by place
 pub monitored-places : (conversions factors : List ℕ) → sum 144 (λ k. getD conversions k 0 * getD factors k 0) ≡ monitoredCarbon (entry factors) conversions
@@ -50,30 +44,31 @@ monitored-small conversions factor small most =
 pub projected-small : (region : Region) (matrix : List ℕ) (factor : ℕ → ℕ → ℕ) → SmallRegion region → RowsWithin matrix → ((i j : ℕ) → factor i j ≤ 65535)
     → SmallCarbon (projectedCarbon factor (region .areas) matrix)
 projected-small region matrix factor small rows most =
-    let all : areaTotal (region .areas) ≤ 1000000000000 = omega arith in
+    let all : areaTotal (region .areas) ≤ greatestArea = omega arith in
     le-trans (projected-carbon-le (region .areas) matrix rows factor 65535 most) (mul-le-mul-right 65535 all)
 
 -- the days of a year of the calendar
 pub calendar-days : (d year : ℕ) → d ≤ daysInYear year → DaysOf d (daysInYear year)
 calendar-days d year h = (h, omega (arith, days-range year), omega (arith, days-range year))
 
--- ---- grams of a year's carbon
+-- ---- grams that carbon makes
 module _ {carbon : ℕ} (small : SmallCarbon carbon) where
-  pub reference-small : {d D : ℕ} → DaysOf d D → SmallGrams (pos (referenceLevel carbon d D))
+  pub reference-small : {d D : ℕ} → DaysOf d D → referenceLevel carbon d D ≤ greatestEmissions
   unfolding referenceLevel
   reference-small {d} {D} (h, positive, most) =
-      omega (arith, div-le-of-le-mul (300 * D) {m = carbon * 11 * d} {n = 2402950000000000} (omega (arith, mul-le-mul small h)))
+      omega (arith, div-le-of-le-mul (300 * D) {m = carbon * 11 * d} {n = greatestEmissions} (omega (arith, mul-le-mul small h)))
 
-  pub emissions-small : SmallGrams (pos (stockChangeEmissions carbon))
+  pub emissions-small : stockChangeEmissions carbon ≤ greatestEmissions
   unfolding stockChangeEmissions
-  emissions-small = omega (arith, ceilDiv-le (carbon * 11) 300 2402950000000000 (lit≤ tt) (omega arith))
+  emissions-small = omega (arith, ceilDiv-le (carbon * 11) 300 greatestEmissions (lit≤ tt) (omega arith))
 
 -- ---- the figures that follow from others
 positive-le : (z : ℤ) → mag (positivePart z) ≤ mag z
 positive-le (pos n) = omega arith
 positive-le (negsuc n) = omega arith
 
-pub displaced-small : (belt reference : ℤ) → SmallGrams belt → SmallGrams reference → mag (displacedEmissions belt reference) < 2 ^ 55
+pub displaced-small : (belt reference : ℤ) → mag belt ≤ greatestEmissions → mag reference ≤ greatestEmissions
+    → mag (displacedEmissions belt reference) ≤ 2 * greatestEmissions + 1
 unfolding displacedEmissions
 displaced-small belt reference b r = omega (arith, positive-le (belt -ℤ reference), mag-minus belt reference)
 
@@ -90,26 +85,29 @@ credited-le (pos n) = rw (credited-positive n) (omega arith)
 credited-le (negsuc n) = rw (credited-negative n) (omega arith)
 
 -- the differences that make up the reduction
-pub reduction-steps : (reference project activity displaced : ℤ) → SmallGrams reference → SmallGrams project → SmallGrams activity → mag displaced < 2 ^ 55
-    → (mag (reference -ℤ project) < 2 ^ 56) × (mag (reference -ℤ project -ℤ activity) < 2 ^ 56) × (mag (reference -ℤ project -ℤ activity -ℤ displaced) < 2 ^ 56)
+pub reduction-steps : (reference project activity displaced : ℤ) → mag reference ≤ greatestEmissions → mag project ≤ greatestEmissions
+    → mag activity ≤ greatestActivity → mag displaced ≤ 2 * greatestEmissions + 1
+    → (mag (reference -ℤ project) < greatestFigure) × (mag (reference -ℤ project -ℤ activity) < greatestFigure)
+    × (mag (reference -ℤ project -ℤ activity -ℤ displaced) < greatestFigure)
 reduction-steps reference project activity displaced r p a d =
     let one = mag-minus reference project in
     let two = mag-minus (reference -ℤ project) activity in
     let three = mag-minus (reference -ℤ project -ℤ activity) displaced in
     (omega arith, omega arith, omega arith)
 
--- ---- each of the eight figures is far within 64 bits
+-- ---- each of the eight figures is within the ladder
 pub record FiguresSmall (figures : Figures) : Type 0 where
-  pub reference : mag (figures .reference .0) < 2 ^ 56
-  pub project : mag (figures .project .0) < 2 ^ 56
-  pub activity : mag (figures .activity .0) < 2 ^ 56
-  pub belt : mag (figures .belt .0) < 2 ^ 56
-  pub belt-reference : mag (figures .«belt_reference» .0) < 2 ^ 56
-  pub displaced : mag (figures .displaced .0) < 2 ^ 56
-  pub reduction : mag (figures .reduction .0) < 2 ^ 56
-  pub credited : mag (figures .credited .0) < 2 ^ 56
+  pub reference : mag (figures .reference .0) < greatestFigure
+  pub project : mag (figures .project .0) < greatestFigure
+  pub activity : mag (figures .activity .0) < greatestFigure
+  pub belt : mag (figures .belt .0) < greatestFigure
+  pub belt-reference : mag (figures .«belt_reference» .0) < greatestFigure
+  pub displaced : mag (figures .displaced .0) < greatestFigure
+  pub reduction : mag (figures .reduction .0) < greatestFigure
+  pub credited : mag (figures .credited .0) < greatestFigure
 
-pub figures-small : (reference project activity belt beltReference : ℤ) → SmallGrams reference → SmallGrams project → SmallGrams activity → SmallGrams belt → SmallGrams beltReference
+pub figures-small : (reference project activity belt beltReference : ℤ) → mag reference ≤ greatestEmissions → mag project ≤ greatestEmissions
+    → mag activity ≤ greatestActivity → mag belt ≤ greatestEmissions → mag beltReference ≤ greatestEmissions
     → FiguresSmall (figuresOf reference project activity belt beltReference)
 unfolding figuresOf reductionOf
 figures-small reference project activity belt beltReference r p a b br =
@@ -128,7 +126,7 @@ figures-small reference project activity belt beltReference r p a b br =
     }
 
 -- those of a year's carbon and activity
-pub year-small : (project belt : YearCarbon) (activity : ℤ) (d D : ℕ) → SmallYear project → SmallYear belt → SmallGrams activity → DaysOf d D
+pub year-small : (project belt : YearCarbon) (activity : ℤ) (d D : ℕ) → SmallYear project → SmallYear belt → mag activity ≤ greatestActivity → DaysOf d D
     → FiguresSmall (carbonFigures project belt activity d D)
 year-small project belt activity d D p b a days =
     figures-small _ _ activity _ _ (reference-small (p .0) days) (emissions-small (p .1)) a (emissions-small (b .1)) (reference-small (b .0) days)

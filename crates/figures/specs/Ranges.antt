@@ -1,16 +1,15 @@
--- Ranges in which every figure of a year fits 64 signed bits. (`mag` is n both of n and of -(n + 1).)
+-- Ranges in which every figure of a year fits 64 signed bits, by the ladder of the crate classes.
 -- Assumes nothing.
-use Prim.Native.Nat.{ℕ, _*_, _^_, _≤_, _<_}
+use Prim.Native.Nat.{ℕ, _≤_, _<_}
 use mathlib.Core.List.{List}
-use lib.IntN.{ℤ}
-use lib.Signed.{mag}
 use lib.ListN.{getD}
 use Rattle.arithmetic.specs.Sum.{sum}
+use Rattle.classes.specs.Ranges.{greatestArea, greatestCarbon}
 use Rattle.figures.specs.declared.YearCarbon.{YearCarbon}
 
--- the carbon of at most 10^12 area units by factors of 16 bits
+-- the carbon of a region or a table
 abbrev pub SmallCarbon : ℕ → Type 0
-SmallCarbon carbon = carbon ≤ 1_000_000_000_000 * 65535
+SmallCarbon carbon = carbon ≤ greatestCarbon
 
 abbrev pub SmallYear : YearCarbon → Type 0
 SmallYear c = SmallCarbon (c .projected .0) × SmallCarbon (c .monitored .0)
@@ -19,10 +18,6 @@ SmallYear c = SmallCarbon (c .projected .0) × SmallCarbon (c .monitored .0)
 abbrev pub DaysOf : ℕ → ℕ → Type 0
 DaysOf d D = (d ≤ D) × (0 < D) × (D ≤ 366)
 
--- a table of conversions of at most 10^12 area units in all
+-- a table of conversions, by the area of all of them
 abbrev pub SmallTable : List ℕ → Type 0
-SmallTable conversions = sum 144 (λ k. getD conversions k 0) ≤ 1_000_000_000_000
-
--- grams of one year's making
-abbrev pub SmallGrams : ℤ → Type 0
-SmallGrams grams = mag grams < 2 ^ 53
+SmallTable conversions = sum 144 (λ k. getD conversions k 0) ≤ greatestArea

@@ -25,7 +25,8 @@ tableEmissions t conversions = stockChangeEmissions (monitoredCarbon (countedFac
 -- the figures of a year that starts from a project area and a belt
 unfoldable pub yearFigures : Terms → Year → (project belt : Region) → Figures
 yearFigures t y project belt =
-    figuresOf (pos (regionReference t y project)) (pos (tableEmissions t (y .conversions))) (pos (activityEmissions (y .activities))) (pos (tableEmissions t (y .beltConversions))) (pos (regionReference t y belt))
+    figuresOf (pos (regionReference t y project)) (pos (tableEmissions t (y .conversions))) (pos (activityEmissions (y .activities)))
+    (pos (tableEmissions t (y .beltConversions))) (pos (regionReference t y belt))
 
 -- what a year with these figures changes: the next is due, one fewer is left, both regions are projected, and the period total, the sum of
 -- credited, grows

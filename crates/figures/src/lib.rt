@@ -4,7 +4,7 @@ use classes::CarbonUnits;
 use classes::Grams;
 use projection::Region;
 ghost use mathlib.Core.Path.{_≡_};
-ghost use Prim.Native.Nat.{_^_, _<_};
+ghost use Prim.Native.Nat.{_^_, _≤_, _<_};
 ghost use mathlib.Core.Bool.{cond};
 ghost use lib.Dec.{eqb};
 ghost use lib.ListN.{length};
@@ -13,9 +13,10 @@ ghost use lib.Signed.{mag};
 ghost use Rattle.classes.specs.Classes.{NF, emissionFactor};
 ghost use Rattle.classes.specs.Matrix.{entry, tableOf};
 ghost use Rattle.classes.specs.Rows.{withRow};
+ghost use Rattle.classes.specs.Ranges.{greatestEmissions, greatestActivity, greatestFigure};
 ghost use Rattle.figures.specs.Figures.{referenceLevel, countedFactor, stockChangeEmissions, displacedEmissions, creditedOf, tonnesOf, noFigures};
 ghost use Rattle.figures.specs.Carbon.{carbonFigures};
-ghost use Rattle.figures.specs.Ranges.{SmallCarbon, SmallYear, SmallGrams, DaysOf};
+ghost use Rattle.figures.specs.Ranges.{SmallCarbon, SmallYear, DaysOf};
 
 // What an opening settles and no year changes: the option, the carbon stocks and the matrix in use, and the starting areas of project and belt.
 pub struct Terms {
@@ -140,7 +141,7 @@ fn stock_change_emissions(carbon: CarbonUnits) -> Grams
 
 // The emissions displaced into the belt: never below 0.
 fn displaced_emissions(belt: Grams, reference: Grams) -> Grams
-    requires { ⌜ (SmallGrams (belt .0)) × (SmallGrams (reference .0)) ⌝ }
+    requires { ⌜ (mag (belt .0) ≤ greatestEmissions) × (mag (reference .0) ≤ greatestEmissions) ⌝ }
     ensures { λ r. ⌜ r .0 ≡ displacedEmissions (belt .0) (reference .0) ⌝ }
 {
     let excess = belt.minus(reference);
@@ -160,7 +161,7 @@ fn negative(n: u64) -> Grams
 
 // Four fifths of a reduction, rounded down: of -(n + 1) it is -((4 × n + 3) ÷ 5 + 1).
 fn credited_part(reduction: Grams) -> Grams
-    requires { ⌜ mag (reduction .0) < 2 ^ 60 ⌝ }
+    requires { ⌜ mag (reduction .0) < greatestFigure ⌝ }
     ensures { λ r. ⌜ r .0 ≡ creditedOf (reduction .0) ⌝ }
 {
     let n = arithmetic::magnitude(reduction.0);
@@ -189,7 +190,7 @@ pub fn year_figures(
     days: u64,
     yeardays: u64,
 ) -> Figures
-    requires { ⌜ (SmallYear project) × (SmallYear belt) × (SmallGrams (activity .0)) ⌝ }
+    requires { ⌜ (SmallYear project) × (SmallYear belt) × (mag (activity .0) ≤ greatestActivity) ⌝ }
     requires { ⌜ DaysOf days yeardays ⌝ }
     ensures { λ r. ⌜ r ≡ carbonFigures project belt (activity .0) days yeardays ⌝ }
 {

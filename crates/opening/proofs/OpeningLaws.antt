@@ -16,9 +16,8 @@ use Rattle.figures.specs.declared.State.{State}
 use Rattle.dossier.specs.Marks.{DA}
 use Rattle.dossier.specs.Records.{Head, Opening, units, matrixInUse, termsOf, stateOf, Due, settled}
 use Rattle.dossier.specs.Reader.{Judged, refused, accepted, _>>=_, _>>_, give, endOfPiece}
-use Rattle.dossier.specs.JudgingRecords.{areas, matrixUnder}
+use Rattle.dossier.specs.JudgingRecords.{areas, matrixUnder, head}
 use Rattle.dossier.specs.Judging.{opening, openingPiece}
-use Rattle.dossier.specs.JudgingRecords.{head}
 use Rattle.cursor.specs.Answers.{numberSays}
 use Rattle.cursor.proofs.AtLaws.{number-no, number-yes, bind-no, bind-yes, bind-bind, after-same}
 use Rattle.opening.specs.declared.OpeningAnswer.{OpeningAnswer}

@@ -11,8 +11,7 @@ ghost use lib.Seq.{sets};
 ghost use Rattle.projection.specs.Projection.{openedRegion};
 ghost use Rattle.wire.specs.Bytes.{numbers, total};
 ghost use Rattle.dossier.specs.JudgingRecords.{head, areas as judgedAreas, matrix as judgedMatrix, matrixUnder};
-ghost use Rattle.opening.specs.Answers.{headFields, headSays, headInside, amounts, noAreas, areasSays, areasInside, matrixJudged, matrixFacts};
-ghost use Rattle.opening.specs.Answers.{matrixUnderJudged, matrixUnderFacts, noOpening, openedSays, openedInside, settledOpening, settledPiece, fromBelt, fromAreas};
+ghost use Rattle.opening.specs.Answers.{headFields, headSays, headInside, amounts, noAreas, areasSays, areasInside, matrixJudged, matrixFacts, matrixUnderJudged, matrixUnderFacts, noOpening, openedSays, openedInside, settledOpening, settledPiece, fromBelt, fromAreas};
 
 const HD: u64 = 0x4844;
 

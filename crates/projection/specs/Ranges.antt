@@ -6,12 +6,13 @@ use lib.ListN.{getD}
 use Rattle.arithmetic.specs.Sum.{sum}
 use Rattle.classes.specs.Classes.{classes}
 use Rattle.classes.specs.Matrix.{entry, million}
+use Rattle.classes.specs.Ranges.{greatestArea}
 use Rattle.projection.specs.declared.Region.{Region}
 use Rattle.projection.specs.Projection.{areaTotal}
 
 -- document 01: "Each total is at most 10^12"
 abbrev pub SmallArea : ℕ → Type 0
-SmallArea area = area ≤ 1_000_000_000_000
+SmallArea area = area ≤ greatestArea
 
 -- with what rounding lost
 abbrev pub SmallRegion : Region → Type 0

@@ -8,9 +8,11 @@ use native.Mathlib.Omega.{arith}
 use lib.ListN.{length, take}
 use Rattle.wire.specs.Bytes.{Bytes}
 use Rattle.figures.specs.Year.{Year}
+use Rattle.dossier.specs.Causes.{yearCauses}
 use Rattle.dossier.specs.Records.{next, YearInRange, YearsInRange}
 use Rattle.dossier.specs.Reader.{Judged, refused, accepted}
 use Rattle.dossier.specs.Judging.{yearPiece}
+use Rattle.dossier.proofs.CauseLaws.{positive}
 use Rattle.dossier.proofs.Causes.{yearPiece-causes}
 use Rattle.dossier.proofs.WellFormed.{year-accepted}
 use Rattle.reckoning.specs.Advanced.{yearAdvanced}
@@ -33,7 +35,7 @@ unfolding called yearCall broughtYear
 brought-when l piece = go (yearPiece (dueOf l) piece) refl
   where
     go : (j : Judged Year) → yearPiece (dueOf l) piece ≡ j → (answerNumber (yearJudged l j .answer) ≡ 0) ↔ (length (judgedYear j) ≡ 1)
-    go (refused n) e = let c = yearPiece-causes (dueOf l) piece n e in ((λ z. absurd (omega arith)), λ z. absurd (omega arith))
+    go (refused n) e = let c = positive yearCauses tt n (yearPiece-causes (dueOf l) piece n e) in ((λ z. absurd (omega arith)), λ z. absurd (omega arith))
     go (accepted y rest) e = ((λ z. refl), λ z. refl)
 
 -- ---- by the verdict on a call
@@ -56,9 +58,11 @@ taken piece l y rest e = record {
   stand = ap (λ (j : Judged Year). standingCall (giving piece) (yearJudged l j .answer)) e;
 }
 
-giving-verdict : (piece : List ℕ) (l : Ledger) (j : Judged Year) → yearPiece (dueOf l) piece ≡ j → ((y : Year) (rest : List ℕ) → j ≡ accepted y rest → YearInRange (dueOf l) y) → Verdict (giving piece) l
+giving-verdict : (piece : List ℕ) (l : Ledger) (j : Judged Year) → yearPiece (dueOf l) piece ≡ j
+    → ((y : Year) (rest : List ℕ) → j ≡ accepted y rest → YearInRange (dueOf l) y) → Verdict (giving piece) l
 unfolding broughtYear afterCall called yearCall
-giving-verdict piece l (refused n) e h = nothing (ap judgedYear e) (ap (λ (j : Judged Year). yearJudged l j .ledger) e) (ap (λ (j : Judged Year). standingCall (giving piece) (yearJudged l j .answer)) e)
+giving-verdict piece l (refused n) e h =
+    nothing (ap judgedYear e) (ap (λ (j : Judged Year). yearJudged l j .ledger) e) (ap (λ (j : Judged Year). standingCall (giving piece) (yearJudged l j .answer)) e)
 giving-verdict piece l (accepted y rest) e h =
     let t = taken piece l y rest e in
     brings y (h y rest refl) (t .brought) (t .after) (t .stand)
@@ -100,7 +104,8 @@ lent-one : (c : Call) (rest more : List Call) → LentBytes (c ∷ rest) → Len
 lent-one (giving piece) rest more b m = (b .0, m)
 lent-one (closing buffer) rest more b m = m
 
-stands-one : (c : Call) (calls : List Call) (l : Ledger) → LedgerKept l → LentBytes (c ∷ calls) → Verdict c l → ((m : Ledger) → LedgerKept m → (y : ℕ) → Stands calls m y) → (y : ℕ) → Stands (c ∷ calls) l y
+stands-one : (c : Call) (calls : List Call) (l : Ledger) → LedgerKept l → LentBytes (c ∷ calls) → Verdict c l
+    → ((m : Ledger) → LedgerKept m → (y : ℕ) → Stands calls m y) → (y : ℕ) → Stands (c ∷ calls) l y
 unfolding standingCalls acceptedYears
 stands-one c calls l k b (nothing e f g) ih y =
     let i = ih l k y in

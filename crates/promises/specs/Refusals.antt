@@ -1,9 +1,11 @@
--- Demand 1: "totals or one numbered refusal"; a refusal returns its number, no totals, and leaves ledger and buffer as they were.
+-- Demand 1: "totals or one numbered refusal"; a refusal returns its number, no totals, and leaves ledger and buffer as they were. The number is one
+-- of the call's own causes.
 -- Assumes nothing.
 use Prim.Native.Nat.{ℕ, _≤_}
 use mathlib.Core.Path.{_≡_}
 use mathlib.Core.List.{List}
 use lib.ListN.{length}
+use Rattle.dossier.specs.Causes.{causes, openingCauses, yearCauses, closingCauses, ZeroOr}
 use Rattle.reckoner.specs.declared.Ledger.{Ledger}
 use Rattle.reckoner.specs.Ledger.{emptyLedger}
 use Rattle.reckoner.specs.Calls.{answerNumber, openCall, yearCall, closeCall, closedBuffer, reckonNumber, reckonBuffer}
@@ -15,3 +17,7 @@ pub record RefusalsLeave : Type 0 where
   pub close : (l : Ledger) (buffer : List ℕ) → (answerNumber (closeCall l (length buffer) .answer) ≡ 0 → ⊥) → closedBuffer l buffer ≡ buffer
   pub closing : (l : Ledger) (size : ℕ) → closeCall l size .ledger ≡ l
   pub reckoning : (s buffer : List ℕ) → (reckonNumber s (length buffer) ≡ 0 → ⊥) → reckonBuffer s buffer ≡ buffer
+  pub openingNumber : (piece : List ℕ) → ZeroOr openingCauses (answerNumber (openCall piece .answer))
+  pub yearNumber : (l : Ledger) (piece : List ℕ) → ZeroOr yearCauses (answerNumber (yearCall l piece .answer))
+  pub closingNumber : (l : Ledger) (size : ℕ) → ZeroOr closingCauses (answerNumber (closeCall l size .answer))
+  pub reckoningNumber : (s : List ℕ) (size : ℕ) → ZeroOr causes (reckonNumber s size)

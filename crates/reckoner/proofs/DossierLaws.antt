@@ -29,9 +29,8 @@ use Rattle.reckoner.specs.declared.Ledger.{Ledger}
 use Rattle.reckoner.specs.declared.Answer.{Answer}
 use Rattle.reckoner.specs.declared.Step.{Step}
 use Rattle.reckoner.specs.Ledger.{newLedger, openedLedger, dueOf, withAdvanced, givenYear, givenYears, ledgerOf}
-use Rattle.reckoner.specs.Parts.{NewlyOpened}
+use Rattle.reckoner.specs.Parts.{NewlyOpened, yearsJudged, yearsCall}
 use Rattle.reckoner.specs.Calls.{refusedOpening, dossierJudged, dossierCall, HandedBack, whole}
-use Rattle.reckoner.specs.Parts.{yearsJudged, yearsCall}
 use Rattle.reckoner.proofs.Invariant.{LedgerKept, due-kept, opened-kept, given-kept}
 use Rattle.reckoner.proofs.OpenLaws.{read, read-ledger}
 use Rattle.reckoner.proofs.YearLaws.{Tables, none-given, one-given, next-inside}

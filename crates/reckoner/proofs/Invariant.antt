@@ -1,6 +1,6 @@
 -- What holds of every ledger that the calls hand back, the empty one of a refused opening too.
 -- Assumes nothing.
-use Prim.Native.Nat.{ℕ, _+_, _*_, _^_, _≤_, _<_}
+use Prim.Native.Nat.{ℕ, _+_, _*_, _≤_, _<_}
 use mathlib.Core.Path.{_≡_, refl, _∙_}
 use mathlib.Core.Bool.{Bool, true, false}
 use mathlib.Core.Option.{Option, none, some}
@@ -18,6 +18,7 @@ use Rattle.arithmetic.proofs.IntegerLaws.{mag-plus}
 use Rattle.arithmetic.proofs.TableLaws.{atMost, entry-le}
 use Rattle.classes.specs.Classes.{classes}
 use Rattle.classes.specs.Matrix.{entry, RowsSum, optionOneMatrix}
+use Rattle.classes.specs.Ranges.{greatestFigure}
 use Rattle.classes.proofs.MatrixLaws.{option-one-rows}
 use Rattle.classes.proofs.FactorLaws.{built-in-le}
 use Rattle.projection.specs.Ranges.{RowsWithin}
@@ -27,7 +28,23 @@ use Rattle.figures.specs.Year.{Year}
 use Rattle.figures.specs.Reckoning.{yearFigures, afterFigures, afterYear}
 use Rattle.figures.proofs.FiguresLaws.{FiguresSmall}
 use Rattle.wire.specs.Bytes.{Bytes, total}
-use Rattle.dossier.specs.Records.{Opening, OpeningInRange, MatrixUnder, matrixInUse, termsOf, stateOf, emptyTerms, emptyState, settled, next, DueInRange, YearInRange, YearsInRange, Dossier, DossierInRange}
+use Rattle.dossier.specs.Records.{
+  Opening,
+  OpeningInRange,
+  MatrixUnder,
+  matrixInUse,
+  termsOf,
+  stateOf,
+  emptyTerms,
+  emptyState,
+  settled,
+  next,
+  DueInRange,
+  YearInRange,
+  YearsInRange,
+  Dossier,
+  DossierInRange,
+}
 use Rattle.dossier.specs.Reader.{Judged, refused, accepted}
 use Rattle.dossier.specs.Judging.{dossier, openingPiece, yearPiece}
 use Rattle.dossier.proofs.WellFormed.{dossier-accepted, opening-accepted, year-accepted}
@@ -46,7 +63,7 @@ pub record LedgerKept (l : Ledger) : Type 0 where
   pub since : l .given ≤ l .state .year
   pub project : RegionKept (l .terms .start .0) (l .state .project)
   pub belt : RegionKept (l .terms .beltstart .0) (l .state .belt)
-  pub total : mag (l .state .total .0) ≤ 2 ^ 56 * l .given
+  pub total : mag (l .state .total .0) ≤ greatestFigure * l .given
   pub stocks : (i : ℕ) → getD (l .terms .stocks) i 0 ≤ 65535
   pub rows : RowsWithin (l .terms .matrix)
   pub places : length (l .terms .matrix) ≡ 144

@@ -1,9 +1,9 @@
--- The number of the whole reckoning: when it is 0, which it can be, and which bytes settle it.
+-- The number of the whole reckoning: when it is 0, and which bytes settle it; and which numbers each call can give.
 -- Assumes nothing.
 use Prim.Native.Nat.{ℕ, _+_, _*_, _≤_, _<_}
 use mathlib.Core.Path.{_≡_, refl, _∙_, ap}
 use mathlib.Core.Bool.{Bool, true, false, cond}
-use mathlib.Core.Logic.{_↔_}
+use mathlib.Core.Logic.{_↔_, inl, inr}
 use mathlib.Core.List.{List, [], _∷_}
 use native.Mathlib.Numerals.{add-one}
 use native.Mathlib.Omega.{arith}
@@ -14,16 +14,18 @@ use Rattle.wire.specs.Bytes.{Bytes}
 use Rattle.figures.specs.Year.{Year}
 use Rattle.figures.specs.Reckoning.{afterFigures, afterYear}
 use Rattle.reckoning.specs.Advanced.{yearAdvanced}
-use Rattle.dossier.specs.Records.{stateOf, Dossier, DossierInRange, dossierBytes}
+use Rattle.dossier.specs.Records.{stateOf, Dossier, DossierInRange, dossierBytes, Opening}
+use Rattle.dossier.specs.Causes.{bufferTooShort, causes, openingCauses, yearCauses, dossierCauses, closingCauses, _∈_, ZeroOr}
 use Rattle.dossier.specs.Reader.{Judged, refused, accepted}
-use Rattle.dossier.specs.Judging.{dossier}
-use Rattle.dossier.proofs.Causes.{dossier-causes}
+use Rattle.dossier.specs.Judging.{dossier, openingPiece, yearPiece}
+use Rattle.dossier.proofs.CauseLaws.{listed, positive, dossier-part}
+use Rattle.dossier.proofs.Causes.{dossier-causes, openingPiece-causes, yearPiece-causes}
 use Rattle.dossier.proofs.WellFormed.{dossier-accepted}
 use Rattle.dossier.proofs.FirstBytes.{first-bytes-settle}
 use Rattle.reckoner.specs.declared.Ledger.{Ledger}
 use Rattle.reckoner.specs.declared.Answer.{Answer}
-use Rattle.reckoner.specs.Ledger.{newLedger, openedLedger, givenYear, givenYears, ledgerOf, firstYear}
-use Rattle.reckoner.specs.Calls.{answerNumber, closeCall, dossierCall, reckonNumber}
+use Rattle.reckoner.specs.Ledger.{newLedger, openedLedger, givenYear, givenYears, ledgerOf, firstYear, dueOf}
+use Rattle.reckoner.specs.Calls.{answerNumber, closeCall, dossierCall, reckonNumber, openJudged, openCall, yearJudged, yearCall, tooShort}
 
 -- every year given is counted
 pub given-count : (ys : List Year) (l : Ledger) → givenYears ys l .given ≡ l .given + length ys
@@ -56,7 +58,7 @@ module _ (s : List ℕ) (size : ℕ) (d : Dossier) (rest : List ℕ) (e : dossie
   unfolding reckonNumber dossierCall
   number-accepted = rw e
 
-  pub number-short : size < 64 * ledgerOf d .given + 32 → reckonNumber s size ≡ 10
+  pub number-short : size < 64 * ledgerOf d .given + 32 → reckonNumber s size ≡ bufferTooShort
   number-short h = number-accepted ∙ unfold closeCall in simp (lt-ltb _ _ h)
 
   pub number-enough : 64 * ledgerOf d .given + 32 ≤ size → reckonNumber s size ≡ 0
@@ -77,22 +79,46 @@ number-zero s b size = (there, back (dossier s) refl)
     fits d t e false f z = ltb-false _ _ f
 
     back : (j : Judged Dossier) → dossier s ≡ j → reckonNumber s size ≡ 0 → (d : Dossier) × DossierInRange d × (s ≡ dossierBytes d) × (64 * d .opening .head .years + 32 ≤ size)
-    back (refused n) e z = let c = dossier-causes s n e in let y = number-refused s size n e in absurd (omega arith)
+    back (refused n) e z = let c = positive dossierCauses tt n (dossier-causes s n e) in let y = number-refused s size n e in absurd (omega arith)
     back (accepted d t) e z =
         let w = dossier-accepted .sound s b d t e in
         (d, w .0, w .1, omega (arith, given-all d (w .0), fits d t e (ltb size (64 * ledgerOf d .given + 32)) refl z))
 
--- no number is above 10
-pub numbers : (s : List ℕ) (size : ℕ) → reckonNumber s size ≤ 10
-numbers s size = go (dossier s) refl
+-- ---- the numbers of each call: 0, or one of its own causes
+pub open-numbers : (piece : List ℕ) → ZeroOr openingCauses (answerNumber (openCall piece .answer))
+unfolding openCall
+open-numbers piece = go (openingPiece piece) refl
   where
-    closed : (b : Bool) → answerNumber (cond b (Answer.Refused 10) Answer.Accepted) ≤ 10
-    closed true = omega arith
-    closed false = omega arith
+    go : (j : Judged Opening) → openingPiece piece ≡ j → ZeroOr openingCauses (answerNumber (openJudged j .answer))
+    go (refused n) e = inr (openingPiece-causes piece n e)
+    go (accepted o rest) e = inl refl
 
-    go : (j : Judged Dossier) → dossier s ≡ j → reckonNumber s size ≤ 10
-    go (refused n) e = let c = dossier-causes s n e in let y = number-refused s size n e in omega arith
-    go (accepted d t) e = rw (number-accepted s size d t e) (unfold closeCall in closed (ltb size (64 * ledgerOf d .given + 32)))
+pub year-numbers : (l : Ledger) (piece : List ℕ) → ZeroOr yearCauses (answerNumber (yearCall l piece .answer))
+unfolding yearCall
+year-numbers l piece = go (yearPiece (dueOf l) piece) refl
+  where
+    go : (j : Judged Year) → yearPiece (dueOf l) piece ≡ j → ZeroOr yearCauses (answerNumber (yearJudged l j .answer))
+    go (refused n) e = inr (yearPiece-causes (dueOf l) piece n e)
+    go (accepted y rest) e = inl refl
+
+-- of a closing, where its cause is allowed
+closed-number : (allowed : List ℕ) → bufferTooShort ∈ allowed → (l : Ledger) (size : ℕ) → ZeroOr allowed (answerNumber (closeCall l size .answer))
+unfolding closeCall
+closed-number allowed h l size = go (tooShort (l .given) size)
+  where
+    go : (b : Bool) → ZeroOr allowed (answerNumber (cond b (Answer.Refused bufferTooShort) Answer.Accepted))
+    go true = inr h
+    go false = inl refl
+
+pub close-numbers : (l : Ledger) (size : ℕ) → ZeroOr closingCauses (answerNumber (closeCall l size .answer))
+close-numbers = closed-number closingCauses (listed bufferTooShort closingCauses tt)
+
+pub reckon-numbers : (s : List ℕ) (size : ℕ) → ZeroOr causes (reckonNumber s size)
+reckon-numbers s size = go (dossier s) refl
+  where
+    go : (j : Judged Dossier) → dossier s ≡ j → ZeroOr causes (reckonNumber s size)
+    go (refused n) e = rw (number-refused s size n e) (inr (dossier-part n (dossier-causes s n e)))
+    go (accepted d t) e = rw (number-accepted s size d t e) (closed-number causes (listed bufferTooShort causes tt) (ledgerOf d) size)
 
 -- the first 65,536 bytes settle it, for any buffer
 pub same-number : (s : List ℕ) → Bytes s → (size : ℕ) → reckonNumber (take 65536 s) size ≡ reckonNumber s size

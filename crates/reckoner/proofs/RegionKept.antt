@@ -10,7 +10,7 @@ use Rattle.arithmetic.proofs.SumLaws.{sum-cong, length-listed}
 use Rattle.classes.specs.Classes.{classes}
 use Rattle.projection.specs.declared.Region.{Region}
 use Rattle.projection.specs.Projection.{area, areaTotal, nextAreas, openedRegion, projectedRegion}
-use Rattle.projection.specs.Ranges.{RowsWithin}
+use Rattle.projection.specs.Ranges.{SmallArea, RowsWithin}
 use Rattle.projection.proofs.ProjectionLaws.{areas-kept}
 use Rattle.wire.specs.Bytes.{total}
 use Rattle.dossier.proofs.LoopLaws.{total-entries}
@@ -19,7 +19,7 @@ use Rattle.dossier.specs.Records.{units}
 -- a region that started from an area, with a place for each class
 pub record RegionKept (start : ℕ) (region : Region) : Type 0 where
   pub whole : areaTotal (region .areas) + region .balance .0 ≡ start
-  pub small : start ≤ 1000000000000
+  pub small : SmallArea start
   pub twelve : length (region .areas) ≡ 12
 
 -- all areas 0
@@ -36,7 +36,7 @@ units-area (x ∷ xs) (suc i) = units-area xs i
 pub units-total : (xs : List ℕ) → length xs ≡ 12 → areaTotal (units xs) ≡ total xs
 units-total xs e = sum-cong classes (area (units xs)) (λ i. getD xs i 0) (λ i h. units-area xs i) ∙ sym (rw e at (total-entries xs))
 
-pub opened-region : (xs : List ℕ) → length xs ≡ 12 → total xs ≤ 1000000000000 → RegionKept (total xs) (openedRegion (units xs))
+pub opened-region : (xs : List ℕ) → length xs ≡ 12 → SmallArea (total xs) → RegionKept (total xs) (openedRegion (units xs))
 unfolding openedRegion
 opened-region xs e h = record { whole = omega (arith, units-total xs e); small = h; twelve = length-map xs (λ (n : ℕ). record { 0 = n }) ∙ e }
 

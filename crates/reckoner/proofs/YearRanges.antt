@@ -1,18 +1,18 @@
--- The figures of a year in range are far within 64 bits.
+-- The figures of a year in range are within the ladder.
 -- Assumes nothing.
 use Prim.Native.Nat.{ℕ, _≤_}
 use mathlib.Core.List.{List}
 use native.Mathlib.Omega.{arith}
-use lib.IntN.{pos}
 use lib.ListN.{getD}
 use Rattle.classes.specs.Classes.{emissionFactor}
+use Rattle.classes.specs.Ranges.{greatestEmissions}
 use Rattle.projection.specs.declared.Region.{Region}
 use Rattle.projection.specs.Ranges.{SmallArea, SmallRegion, RowsWithin}
 use Rattle.activity.proofs.ActivityLaws.{emissions-le}
 use Rattle.figures.specs.declared.Terms.{Terms}
 use Rattle.figures.specs.Year.{Year}
 use Rattle.figures.specs.Figures.{countedFactor}
-use Rattle.figures.specs.Ranges.{SmallTable, SmallGrams}
+use Rattle.figures.specs.Ranges.{SmallTable}
 use Rattle.figures.specs.Reckoning.{regionReference, tableEmissions, yearFigures}
 use Rattle.figures.proofs.CountedLaws.{small-factor, small-counted}
 use Rattle.figures.proofs.FiguresLaws.{FiguresSmall, figures-small, projected-small, calendar-days, reference-small, emissions-small, monitored-small}
@@ -21,12 +21,12 @@ use Rattle.dossier.proofs.LoopLaws.{total-entries}
 
 -- by stocks of 16 bits, and a matrix whose rows sum to at most 1,000,000
 module _ (t : Terms) (stocks : (i : ℕ) → getD (t .stocks) i 0 ≤ 65535) (rows : RowsWithin (t .matrix)) (due : Due) (settled : DueInRange due) (y : Year) (h : YearInRange due y) where
-  reference-range : (region : Region) → SmallRegion region → SmallGrams (pos (regionReference t y region))
+  reference-range : (region : Region) → SmallRegion region → regionReference t y region ≤ greatestEmissions
   unfolding regionReference
   reference-range region r =
       reference-small (projected-small region (t .matrix) (emissionFactor (t .stocks)) r rows (small-factor (t .stocks) stocks)) (calendar-days (y .operatingDays) (y .year) (h .days .most))
 
-  table-range : (sum : ℕ) (conversions : List ℕ) → SmallArea sum → ConversionsInRange sum conversions → SmallGrams (pos (tableEmissions t conversions))
+  table-range : (sum : ℕ) (conversions : List ℕ) → SmallArea sum → ConversionsInRange sum conversions → tableEmissions t conversions ≤ greatestEmissions
   unfolding tableEmissions
   table-range sum conversions s c =
       let few : SmallTable conversions = omega (arith, c .totals, rw (c .count) at (total-entries conversions)) in

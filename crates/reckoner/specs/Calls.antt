@@ -8,6 +8,7 @@ use lib.ListN.{length}
 use Rattle.wire.specs.Bytes.{Bytes}
 use Rattle.wire.specs.Signed.{written}
 use Rattle.figures.specs.Year.{Year}
+use Rattle.dossier.specs.Causes.{bufferTooShort}
 use Rattle.dossier.specs.Records.{Opening, Dossier}
 use Rattle.dossier.specs.Reader.{Judged, refused, accepted}
 use Rattle.dossier.specs.Judging.{dossier, openingPiece, yearPiece}
@@ -51,7 +52,7 @@ tooShort n size = ltb size (64 * n + 32)
 
 -- "Closing after k years (k may be 0) takes k for n in the buffer's layout and length"; it hands back the ledger it got
 unfoldable pub closeCall : Ledger → (size : ℕ) → Step
-closeCall l size = record { ledger = l; answer = cond (tooShort (l .given) size) (Answer.Refused 10) Answer.Accepted }
+closeCall l size = record { ledger = l; answer = cond (tooShort (l .given) size) (Answer.Refused bufferTooShort) Answer.Accepted }
 
 -- the buffer afterwards: the report and the old bytes beyond it, or as it was
 unfoldable pub closedBuffer : Ledger → List ℕ → List ℕ

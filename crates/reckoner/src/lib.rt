@@ -9,9 +9,8 @@ ghost use mathlib.Core.Path.{_≡_};
 ghost use Prim.Native.Nat.{_≤_, _<_};
 ghost use lib.ListN.{length, drop};
 ghost use Rattle.reckoner.specs.Ledger.{newLedger, withAdvanced, firstYear};
-ghost use Rattle.reckoner.specs.Parts.{NewlyOpened, Closable};
+ghost use Rattle.reckoner.specs.Parts.{NewlyOpened, Closable, yearsCall};
 ghost use Rattle.reckoner.specs.Calls.{answerNumber, refusedOpening, openCall, yearCall, closeCall, closedBuffer, dossierCall, HandedBack, reckonNumber, reckonBuffer};
-ghost use Rattle.reckoner.specs.Parts.{yearsCall};
 
 // A ledger: the years given, what its opening settled, the state that years change, and the figures of the years given.
 pub struct Ledger {

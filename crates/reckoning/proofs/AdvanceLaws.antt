@@ -2,25 +2,25 @@
 -- Assumes nothing.
 use mathlib.Core.Path.{_≡_, _∙_, ap}
 use mathlib.Core.List.{List}
-use Prim.Native.Nat.{ℕ, _+_, _-_, _^_, _≤_, _<_}
+use Prim.Native.Nat.{ℕ, _+_, _-_, _≤_, _<_}
 use native.Mathlib.Omega.{arith}
 use lib.IntN.{ℤ, _+ℤ_}
 use lib.Signed.{mag}
 use mir.Syntax.{w64}
 use mir.Val.{SFits}
-use borrow.Author.Needs.{sfits-of}
-use Rattle.arithmetic.proofs.IntegerLaws.{mag-plus}
 use Rattle.classes.specs.declared.CarbonUnits.{CarbonUnits}
 use Rattle.classes.specs.declared.Grams.{Grams}
 use Rattle.classes.specs.Matrix.{entry}
 use Rattle.classes.specs.Calendar.{daysInYear}
+use Rattle.classes.specs.Ranges.{greatestActivity, greatestFigure, greatestTotal}
+use Rattle.classes.proofs.RangeLaws.{plus-fits}
 use Rattle.projection.specs.declared.Region.{Region}
 use Rattle.projection.specs.declared.Projected.{Projected}
 use Rattle.projection.specs.Projection.{projectedYear}
 use Rattle.projection.specs.Ranges.{SmallRegion, RowsWithin, FactorsFit}
 use Rattle.projection.proofs.ProjectionLaws.{fitting-le}
 use Rattle.figures.specs.declared.Figures.{Figures}
-use Rattle.figures.specs.Ranges.{SmallCarbon, SmallYear, SmallGrams, DaysOf}
+use Rattle.figures.specs.Ranges.{SmallCarbon, SmallYear, DaysOf}
 use Rattle.figures.specs.Carbon.{carbonFigures}
 use Rattle.figures.proofs.FiguresLaws.{projected-small, calendar-days, year-small}
 use Rattle.figures.specs.declared.State.{State}
@@ -29,7 +29,8 @@ use Rattle.reckoning.specs.declared.Advanced.{Advanced}
 use Rattle.reckoning.specs.Step.{summaryFigures, summaryAdvanced}
 
 -- the carbon of a small region is small
-pub carbon-small : (matrix factors : List ℕ) (region : Region) (r : Projected) → RowsWithin matrix → FactorsFit factors → SmallRegion region → r ≡ projectedYear (entry factors) matrix region → SmallCarbon (r .carbon .0)
+pub carbon-small : (matrix factors : List ℕ) (region : Region) (r : Projected) → RowsWithin matrix → FactorsFit factors → SmallRegion region
+    → r ≡ projectedYear (entry factors) matrix region → SmallCarbon (r .carbon .0)
 unfolding projectedYear
 carbon-small matrix factors region r rows fit small e = rw e (projected-small region matrix (entry factors) small rows (fitting-le factors fit))
 
@@ -44,11 +45,11 @@ module _ (matrix factors : List ℕ) (state : State) (days : ℕ) (p b : CarbonU
   unfolding summaryFigures projectedYear
   figures-are = ef ∙ rw (e, e′, ed)
 
-  pub grown-fits : SmallYear (record { projected = r .carbon; monitored = p }) → SmallYear (record { projected = r′ .carbon; monitored = b }) → SmallGrams (a .0) → DaysOf days yeardays → mag (state .total .0) < 2 ^ 61
-      → SFits w64 (state .total .0 +ℤ figures .credited .0)
+  pub grown-fits : SmallYear (record { projected = r .carbon; monitored = p }) → SmallYear (record { projected = r′ .carbon; monitored = b }) → mag (a .0) ≤ greatestActivity
+      → DaysOf days yeardays → mag (state .total .0) ≤ greatestTotal → SFits w64 (state .total .0 +ℤ figures .credited .0)
   grown-fits hp hb ha hd ht =
-      let small : mag (figures .credited .0) < 2 ^ 56 = rw ef (year-small (record { projected = r .carbon; monitored = p }) (record { projected = r′ .carbon; monitored = b }) (a .0) days yeardays hp hb ha hd .credited) in
-      sfits-of (omega (arith, mag-plus (state .total .0) (figures .credited .0)))
+      let small : mag (figures .credited .0) < greatestFigure = rw ef (year-small _ _ (a .0) days yeardays hp hb ha hd .credited) in
+      plus-fits (state .total .0) (figures .credited .0) ht (omega arith)
 
   pub whole : (grown : Grams) → grown .0 ≡ state .total .0 +ℤ figures .credited .0
       → _≡_ {A = Advanced} (record { state = record { year = state .year + 1; left = state .left - 1; project = r .region; belt = r′ .region; total = grown }; figures = figures })

@@ -3,6 +3,7 @@
 use mathlib.Core.Path.{_≡_, refl, _∙_, ap}
 use mathlib.Core.List.{List}
 use Prim.Native.Nat.{ℕ, _≤_, _<_}
+use lib.Signed.{mag}
 use lib.ListN.{length, drop}
 use Rattle.arithmetic.proofs.SumLaws.{sum2-cong}
 use Rattle.classes.specs.declared.CarbonUnits.{CarbonUnits}
@@ -10,6 +11,7 @@ use Rattle.classes.specs.declared.Grams.{Grams}
 use Rattle.classes.specs.Classes.{classes, emissionFactor}
 use Rattle.classes.specs.Matrix.{entry, tableOf}
 use Rattle.classes.specs.Calendar.{daysInYear}
+use Rattle.classes.specs.Ranges.{greatestActivity}
 use Rattle.classes.proofs.MatrixLaws.{entry-tableOf}
 use Rattle.projection.specs.declared.Region.{Region}
 use Rattle.projection.specs.Projection.{projectedCarbon}
@@ -17,7 +19,7 @@ use Rattle.figures.specs.declared.Terms.{Terms}
 use Rattle.figures.specs.declared.State.{State}
 use Rattle.figures.specs.Year.{Year}
 use Rattle.figures.specs.Figures.{monitoredCarbon, countedFactor}
-use Rattle.figures.specs.Ranges.{SmallCarbon, SmallGrams}
+use Rattle.figures.specs.Ranges.{SmallCarbon}
 use Rattle.figures.specs.Reckoning.{regionReference, tableEmissions, yearFigures, afterYear}
 use Rattle.dossier.specs.Reader.{Judged, refused, accepted, after, _>>=_, give}
 use Rattle.dossier.specs.Judging.{yearLeft, year}
@@ -38,14 +40,15 @@ pub record WasRead (s : List ℕ) (due left days : ℕ) (p b : CarbonUnits) (a :
   pub inside : next ≤ length s
   pub project : SmallCarbon (p .0)
   pub belt : SmallCarbon (b .0)
-  pub activity : SmallGrams (a .0)
+  pub activity : mag (a .0) ≤ greatestActivity
   pub some : 1 ≤ left
   pub allowed : days ≤ daysInYear due
 
-pub year-was-read : (s : List ℕ) (r : YearAnswer) (due left days : ℕ) (p b : CarbonUnits) (a : Grams) (next : ℕ) (j : Judged Summary) → r ≡ YearAnswer.Read days p b a next → yearSays s r ≡ j → tablesInside s r → yearFits due left r
+pub year-was-read : (s : List ℕ) (r : YearAnswer) (due left days : ℕ) (p b : CarbonUnits) (a : Grams) (next : ℕ) (j : Judged Summary)
+    → r ≡ YearAnswer.Read days p b a next → yearSays s r ≡ j → tablesInside s r → yearFits due left r
     → WasRead s due left days p b a next j
 year-was-read s r due left days p b a next j e q i f =
-    let k : (next ≤ length s) × SmallCarbon (p .0) × SmallCarbon (b .0) × SmallGrams (a .0) = rw e at i in
+    let k : (next ≤ length s) × SmallCarbon (p .0) × SmallCarbon (b .0) × (mag (a .0) ≤ greatestActivity) = rw e at i in
     let g : (1 ≤ left) × (days ≤ daysInYear due) = rw e at f in
     record { says = rw e at q; inside = k .0; project = k .1; belt = k .2; activity = k .3; some = g .0; allowed = g .1 }
 
@@ -54,12 +57,14 @@ module _ (factor counted : ℕ → ℕ → ℕ) (matrix : List ℕ) (start belts
   unfolding steppedYear
   stepped-no n e = bind-no (summarizedYear counted (state .year) (state .left) start beltstart) _ u n e
 
-  pub stepped-yes : (m : Summary) (v : List ℕ) (a : Advanced) → accepted m v ≡ summarizedYear counted (state .year) (state .left) start beltstart u → a ≡ summaryAdvanced factor matrix m state → accepted a v ≡ steppedYear factor counted matrix start beltstart state u
+  pub stepped-yes : (m : Summary) (v : List ℕ) (a : Advanced) → accepted m v ≡ summarizedYear counted (state .year) (state .left) start beltstart u
+      → a ≡ summaryAdvanced factor matrix m state → accepted a v ≡ steppedYear factor counted matrix start beltstart state u
   unfolding steppedYear give
   stepped-yes m v a e f = rw f (bind-yes (summarizedYear counted (state .year) (state .left) start beltstart) _ u m v e)
 
 -- ---- by the tables of the terms, a step is the year's own reckoning
-carbon-same : (f g : ℕ → ℕ → ℕ) (region : Region) (matrix : List ℕ) → ((i j : ℕ) → i < classes → j < classes → f i j ≡ g i j) → projectedCarbon f (region .areas) matrix ≡ projectedCarbon g (region .areas) matrix
+carbon-same : (f g : ℕ → ℕ → ℕ) (region : Region) (matrix : List ℕ) → ((i j : ℕ) → i < classes → j < classes → f i j ≡ g i j)
+    → projectedCarbon f (region .areas) matrix ≡ projectedCarbon g (region .areas) matrix
 unfolding projectedCarbon
 carbon-same f g region matrix h = sum2-cong classes _ _ (λ i j hi hj. rw (h i j hi hj))
 

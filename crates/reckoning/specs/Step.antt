@@ -1,11 +1,12 @@
 -- One year's reckoning over the bytes, from a year's summary and by tables of factors.
 -- Serves contracts of inner functions and proofs; nothing here has to be believed. Assumes nothing.
-use Prim.Native.Nat.{ℕ, _^_, _≤_, _<_}
+use Prim.Native.Nat.{ℕ, _≤_, _<_}
 use mathlib.Core.Path.{_≡_}
 use mathlib.Core.List.{List}
 use lib.Signed.{mag}
 use lib.ListN.{length, drop}
 use Rattle.classes.specs.Calendar.{daysInYear}
+use Rattle.classes.specs.Ranges.{greatestTotal}
 use Rattle.projection.specs.Projection.{projectedCarbon}
 use Rattle.projection.specs.Ranges.{SmallRegion}
 use Rattle.figures.specs.declared.Figures.{Figures}
@@ -52,9 +53,9 @@ stepFacts s state advanced (StepAnswer.Refused n) = advanced ≡ record { state 
 abbrev pub stepInside : List ℕ → State → Stepped → Type 0
 stepInside s state r = stepFacts s state (r .advanced) (r .answer)
 
--- ranges in which every sum fits 64 bits
+-- ranges in which every sum fits 64 bits, by the ladder of the crate classes
 pub record SmallState (state : State) : Type 0 where
   pub year : state .year < 65536
   pub project : SmallRegion (state .project)
   pub belt : SmallRegion (state .belt)
-  pub total : mag (state .total .0) < 2 ^ 61
+  pub total : mag (state .total .0) ≤ greatestTotal

@@ -8,11 +8,13 @@ use figures::YearCarbon;
 use years::YearAnswer;
 ghost use mathlib.Core.Path.{_≡_};
 ghost use Prim.Native.Nat.{_≤_};
+ghost use lib.Signed.{mag};
 ghost use lib.ListN.{length, drop};
 ghost use Rattle.classes.specs.Matrix.{entry};
 ghost use Rattle.classes.specs.Calendar.{daysInYear};
-ghost use Rattle.projection.specs.Ranges.{RowsWithin, FactorsFit};
-ghost use Rattle.figures.specs.Ranges.{SmallCarbon, SmallGrams};
+ghost use Rattle.classes.specs.Ranges.{greatestActivity};
+ghost use Rattle.projection.specs.Ranges.{SmallArea, RowsWithin, FactorsFit};
+ghost use Rattle.figures.specs.Ranges.{SmallCarbon};
 ghost use Rattle.reckoning.specs.Step.{summaryAdvanced, steppedYear, stepSays, stepInside, SmallState};
 
 // The state after a year, and the year's figures.
@@ -45,7 +47,7 @@ fn advance(
     requires { ⌜ SmallState state ⌝ }
     requires { ⌜ RowsWithin (now matrix) ⌝ }
     requires { ⌜ FactorsFit (now factors) ⌝ }
-    requires { ⌜ (SmallCarbon (project .0)) × (SmallCarbon (belt .0)) × (SmallGrams (activity .0)) × (1 ≤ state .left) × (days ≤ daysInYear (state .year)) ⌝ }
+    requires { ⌜ (SmallCarbon (project .0)) × (SmallCarbon (belt .0)) × (mag (activity .0) ≤ greatestActivity) × (1 ≤ state .left) × (days ≤ daysInYear (state .year)) ⌝ }
     ensures { λ r. ⌜ r ≡ summaryAdvanced (entry (now (factors .entry))) (now (matrix .entry)) (record { days = days; project = project; belt = belt; activity = activity }) state ⌝ }
 {
     let region = state.project;
@@ -92,7 +94,7 @@ pub fn step(
     factors: &[u64; 144],
     counted: &[u64; 144],
 ) -> Stepped
-    requires { ⌜ (at ≤ length (now s)) × (start .0 ≤ 1000000000000) × (belt .0 ≤ 1000000000000) ⌝ }
+    requires { ⌜ (at ≤ length (now s)) × (SmallArea (start .0)) × (SmallArea (belt .0)) ⌝ }
     requires { ⌜ SmallState state ⌝ }
     requires { ⌜ RowsWithin (now matrix) ⌝ }
     requires { ⌜ FactorsFit (now factors) ⌝ }

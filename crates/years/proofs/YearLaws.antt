@@ -13,6 +13,7 @@ use borrow.Author.Tests.{eq-eqb, ne-eqb}
 use Rattle.classes.specs.declared.CarbonUnits.{CarbonUnits}
 use Rattle.classes.specs.declared.Grams.{Grams}
 use Rattle.classes.specs.Calendar.{daysInYear}
+use Rattle.classes.specs.Ranges.{greatestActivity}
 use Rattle.figures.specs.Year.{Year}
 use Rattle.wire.specs.Bytes.{fieldAt}
 use Rattle.dossier.specs.Marks.{YR, CP, CD}
@@ -24,7 +25,7 @@ use Rattle.cursor.proofs.AtLaws.{begun-no, begun-yes, reading}
 use Rattle.dossier.proofs.ReaderLaws.{step, was, bind-no, bind-yes, bind-bind, after-same}
 use Rattle.activities.specs.declared.RunAnswer.{RunAnswer}
 use Rattle.activities.specs.Answers.{summedActivities, runSays, runInside}
-use Rattle.figures.specs.Ranges.{SmallCarbon, SmallGrams}
+use Rattle.figures.specs.Ranges.{SmallCarbon}
 use Rattle.years.proofs.EndLaws.{none-left-is}
 use Rattle.years.specs.declared.TableAnswer.{TableAnswer}
 use Rattle.years.specs.declared.YearAnswer.{YearAnswer}
@@ -75,7 +76,8 @@ tables-summarized factor calendarYear days projectTotal beltTotal u =
     ∙ sym (bind-bind (conversions CP projectTotal u) _ _)
 
 -- ---- YR
-pub year-none : (factor : ℕ → ℕ → ℕ) (due left start beltstart : ℕ) (u : List ℕ) (n : ℕ) → left ≡ 0 → n ≡ numberOf (noneLeft {A = Unit {0}} u) → refused n ≡ summarizedYear factor due left start beltstart u
+pub year-none : (factor : ℕ → ℕ → ℕ) (due left start beltstart : ℕ) (u : List ℕ) (n : ℕ) → left ≡ 0 → n ≡ numberOf (noneLeft {A = Unit {0}} u)
+    → refused n ≡ summarizedYear factor due left start beltstart u
 unfolding summarizedYear yearLeft
 year-none factor due left start beltstart u n e g = bind-no (yearLeft due left start beltstart) _ u n (rw (eq-eqb left 0 e, g) (sym (none-left-is u)))
 
@@ -120,11 +122,11 @@ module _ (s : List ℕ) (at : ℕ) (r : RunAnswer) (j : Judged Grams) (q : runSa
   run-refused n e = rw e at q
 
   pub run-was-read : (grams : Grams) (next : ℕ) → at ≤ length s → r ≡ RunAnswer.Read grams next → runInside (drop at s) r
-      → (accepted grams (drop (at + next) s) ≡ j) × (at + next ≤ length s) × SmallGrams (grams .0)
+      → (accepted grams (drop (at + next) s) ≡ j) × (at + next ≤ length s) × (mag (grams .0) ≤ greatestActivity)
   run-was-read grams next h e i =
-      let k : (next ≤ length (drop at s)) × (mag (grams .0) ≤ 240000000000000) = rw e at i in
+      let k : (next ≤ length (drop at s)) × (mag (grams .0) ≤ greatestActivity) = rw e at i in
       let l : next ≤ length s - at = rw length-drop at (k .0) in
-      (rw (e, drop-drop) at q, omega arith, omega arith)
+      (rw (e, drop-drop) at q, omega arith, k .1)
 
 -- the records of a year keep its small tables
 pub records-keep : (s : List ℕ) (r : YearAnswer) (days : ℕ) (p b : CarbonUnits) (u : List ℕ) → yearSays s r ≡ summarizedRecords days p b u

@@ -3,14 +3,16 @@
 use Prim.Native.Nat.{ℕ, _≤_}
 use mathlib.Core.List.{List}
 use lib.IntN.{pos}
+use lib.Signed.{mag}
 use lib.ListN.{length, drop}
 use Rattle.classes.specs.declared.CarbonUnits.{CarbonUnits}
 use Rattle.classes.specs.declared.Grams.{Grams}
 use Rattle.classes.specs.Calendar.{daysInYear}
+use Rattle.classes.specs.Ranges.{greatestActivity}
 use Rattle.activity.specs.Activity.{activityEmissions}
 use Rattle.figures.specs.Year.{Year}
 use Rattle.figures.specs.Figures.{monitoredCarbon}
-use Rattle.figures.specs.Ranges.{SmallCarbon, SmallGrams}
+use Rattle.figures.specs.Ranges.{SmallCarbon}
 use Rattle.dossier.specs.Reader.{Judged, refused, accepted, Reader, _>>=_, _>>_, give}
 use Rattle.dossier.specs.JudgingRecords.{conversions}
 use Rattle.dossier.specs.Marks.{CP, CD}
@@ -70,13 +72,13 @@ abbrev pub yearSays : List ℕ → YearAnswer → Judged Summary
 yearSays s (YearAnswer.Read days project belt activity next) = accepted (record { days = days; project = project; belt = belt; activity = activity }) (drop next s)
 yearSays s (YearAnswer.Refused n) = refused n
 
--- the next record begins inside, and carbon and grams are small
+-- the next record begins inside, and carbon and grams are in range
 abbrev pub recordsInside : List ℕ → YearAnswer → Type 0
-recordsInside s (YearAnswer.Read days project belt activity next) = (next ≤ length s) × SmallGrams (activity .0)
+recordsInside s (YearAnswer.Read days project belt activity next) = (next ≤ length s) × (mag (activity .0) ≤ greatestActivity)
 recordsInside s (YearAnswer.Refused n) = Unit {0}
 
 abbrev pub tablesInside : List ℕ → YearAnswer → Type 0
-tablesInside s (YearAnswer.Read days project belt activity next) = (next ≤ length s) × SmallCarbon (project .0) × SmallCarbon (belt .0) × SmallGrams (activity .0)
+tablesInside s (YearAnswer.Read days project belt activity next) = (next ≤ length s) × SmallCarbon (project .0) × SmallCarbon (belt .0) × (mag (activity .0) ≤ greatestActivity)
 tablesInside s (YearAnswer.Refused n) = Unit {0}
 
 -- a year was left, and d is no more than the days of the one that is due

@@ -9,6 +9,7 @@ use lib.IntN.{pos}
 use borrow.Author.Needs.{needs}
 use Rattle.arithmetic.specs.Rounding.{ceilDiv}
 use Rattle.arithmetic.proofs.RoundingLaws.{split-up}
+use Rattle.classes.specs.Ranges.{greatestRecord}
 use Rattle.activity.proofs.ActivityLaws.{nitrogen-le}
 use Rattle.activity.proofs.nitrogen_emissions.Statement.{statement}
 use Rattle.activity.proofs.nitrogen_emissions.Tie as tie
@@ -30,7 +31,7 @@ weight-most c = omega arith
 sum-is : (c : tie.After-divided-up) → let n = c .before in nitrogen n / 7000000000 * weight n + c .divided-up .result ≡ ceilDiv (nitrogen n * weight n) 7000000000
 sum-is c = rw (c .divided-up .ensures) (split-up _ _ 7000000000 (lit≤ tt))
 
-sum-le : (c : tie.After-divided-up) → ceilDiv (nitrogen (c .before) * weight (c .before)) 7000000000 ≤ 4000000000000
+sum-le : (c : tie.After-divided-up) → ceilDiv (nitrogen (c .before) * weight (c .before)) 7000000000 ≤ greatestRecord
 sum-le c = nitrogen-le (nitrogen-most (c .before)) (weight-most (c .before))
 
 n2o-share-requires : tie.Need-n2o-share-requires

@@ -7,9 +7,9 @@ use mir.Val.{SFits}
 use borrow.Author.Needs.{sfits-of}
 use Rattle.arithmetic.proofs.IntegerLaws.{mag-minus}
 use Rattle.arithmetic.specs.Rounding.{positivePart}
+use Rattle.classes.proofs.RangeLaws.{fits}
 use Rattle.figures.specs.Figures.{displacedEmissions}
 use Rattle.arithmetic.proofs.SignedLaws.{below-zero, from-zero}
-use Rattle.figures.proofs.FiguresLaws.{within}
 use Rattle.figures.proofs.displaced_emissions.Statement.{statement}
 use Rattle.figures.proofs.displaced_emissions.Tie as tie
 
@@ -18,7 +18,7 @@ excess-fits : (c : tie.After-struct-told) → SFits w64 (c .before .before .minu
 excess-fits c = sfits-of (c .struct-told .given .0 .1)
 
 minus-requires : tie.Need-minus-requires
-minus-requires c κs = within (omega (arith, mag-minus (c .args .belt .0) (c .args .reference .0)))
+minus-requires c κs = fits (omega (arith, mag-minus (c .args .belt .0) (c .args .reference .0)))
 
 returns : tie.Need-returns
 unfolding displacedEmissions

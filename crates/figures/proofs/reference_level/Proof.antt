@@ -1,12 +1,13 @@
 -- `figures::reference_level` meets its contract: the quotient's multiple and the remainder's quotient sum to the rounded whole.
 -- Assumes nothing.
 use mathlib.Core.Path.{_≡_, _∙_, ap, sym}
-use Prim.Native.Nat.{ℕ, _+_, _*_, _/_, _%_, _^_, _≤_, _<_}
+use Prim.Native.Nat.{ℕ, _+_, _*_, _/_, _%_, _≤_, _<_}
 use native.Mathlib.Nat.{mul-assoc, mul-le-mul, mod-lt}
 use native.Mathlib.Omega.{arith}
 use lib.IntN.{pos}
 use borrow.Author.Needs.{needs}
 use Rattle.arithmetic.proofs.RoundingLaws.{split-down}
+use Rattle.classes.specs.Ranges.{greatestEmissions}
 use Rattle.figures.specs.Figures.{referenceLevel}
 use Rattle.figures.proofs.FiguresLaws.{reference-small}
 use Rattle.figures.proofs.reference_level.Statement.{statement}
@@ -24,7 +25,7 @@ returns : tie.Need-returns
 returns c = let b = c .before .before .before in c .of .ensures ∙ ap pos (whole (b .args .carbon .0) (b .args .days) (b .args .yeardays) (b .pre .1 .1))
 
 -- so each part is within the bound of the whole
-parts-small : (c : tie.After-struct-known) → parts (c .before .args .carbon .0) (11 * c .before .args .days) (300 * c .before .args .yeardays) < 2 ^ 53
+parts-small : (c : tie.After-struct-known) → parts (c .before .args .carbon .0) (11 * c .before .args .days) (300 * c .before .args .yeardays) ≤ greatestEmissions
 parts-small c =
     let pre = c .before .pre in
     rw (whole (c .before .args .carbon .0) (c .before .args .days) (c .before .args .yeardays) (pre .1 .1)) (reference-small (pre .0) (pre .1))

@@ -1,23 +1,24 @@
 -- `figures::year_figures` meets its contract: its calls make the eight figures one after the other, each within 64 bits.
 -- Assumes nothing.
 use mathlib.Core.Path.{_≡_}
-use Prim.Native.Nat.{_^_, _<_}
+use Prim.Native.Nat.{_≤_, _<_}
 use native.Mathlib.Omega.{arith}
 use lib.IntN.{ℤ, pos, _-ℤ_}
 use lib.Signed.{mag}
 use borrow.Author.Needs.{needs}
+use Rattle.classes.specs.Ranges.{greatestEmissions, greatestFigure}
+use Rattle.classes.proofs.RangeLaws.{fits}
 use Rattle.figures.specs.declared.Figures.{Figures}
 use Rattle.figures.specs.Figures.{referenceLevel, stockChangeEmissions, displacedEmissions, reductionOf, creditedOf, figuresOf}
-use Rattle.figures.specs.Ranges.{SmallGrams}
-use Rattle.figures.proofs.FiguresLaws.{within, reference-small, emissions-small, displaced-small, reduction-steps}
+use Rattle.figures.proofs.FiguresLaws.{reference-small, emissions-small, displaced-small, reduction-steps}
 use Rattle.figures.proofs.year_figures.Statement.{statement}
 use Rattle.figures.proofs.year_figures.Tie as tie
 
--- what the calls give is small
+-- what the calls give is what carbon makes
 small : (c : tie.After-reference-level2)
     → let own = c .before .before in
-    SmallGrams (own .before .reference-level .result .0) × SmallGrams (own .stock-change-emissions .result .0)
-    × SmallGrams (c .before .stock-change-emissions2 .result .0) × SmallGrams (c .reference-level2 .result .0)
+    (mag (own .before .reference-level .result .0) ≤ greatestEmissions) × (mag (own .stock-change-emissions .result .0) ≤ greatestEmissions)
+    × (mag (c .before .stock-change-emissions2 .result .0) ≤ greatestEmissions) × (mag (c .reference-level2 .result .0) ≤ greatestEmissions)
 small c =
     let own = c .before .before in
     let ((project, belt, activity), days) = own .before .before .pre in (
@@ -41,8 +42,8 @@ abbrev displaced : tie.After-displaced-emissions → ℤ
 displaced c = c .displaced-emissions .result .0
 
 steps : (c : tie.After-displaced-emissions)
-    → (mag (reference c -ℤ emitted c) < 2 ^ 56) × (mag (reference c -ℤ emitted c -ℤ activity c) < 2 ^ 56)
-    × (mag (reference c -ℤ emitted c -ℤ activity c -ℤ displaced c) < 2 ^ 56)
+    → (mag (reference c -ℤ emitted c) < greatestFigure) × (mag (reference c -ℤ emitted c -ℤ activity c) < greatestFigure)
+    × (mag (reference c -ℤ emitted c -ℤ activity c -ℤ displaced c) < greatestFigure)
 steps c =
     let at-start = c .before .before .before .before .before in
     let (r, e, b, k) = small (c .before) in
@@ -64,13 +65,13 @@ displaced-emissions-requires : tie.Need-displaced-emissions-requires
 displaced-emissions-requires c κs = (small c .2, small c .3)
 
 minus-requires : tie.Need-minus-requires
-minus-requires c κs = within (steps c .0)
+minus-requires c κs = fits (omega (arith, steps c .0))
 
 minus-requires-2 : tie.Need-minus-requires-2
-minus-requires-2 c κs = rw (c .minus .ensures) (within (steps (c .before) .1))
+minus-requires-2 c κs = rw (c .minus .ensures) (fits (omega (arith, steps (c .before) .1)))
 
 minus-requires-3 : tie.Need-minus-requires-3
-minus-requires-3 c κs = rw (c .minus2 .ensures, c .before .minus .ensures) (within (steps (c .before .before) .2))
+minus-requires-3 c κs = rw (c .minus2 .ensures, c .before .minus .ensures) (fits (omega (arith, steps (c .before .before) .2)))
 
 credited-part-requires : tie.Need-credited-part-requires
 credited-part-requires c κs =

@@ -7,14 +7,30 @@ use Rattle.reckoning.proofs.AdvanceLaws.{carbon-small, days-asked, grow
 use Rattle.reckoning.proofs.advance.Statement.{statement}
 use Rattle.reckoning.proofs.advance.Tie as tie
 
-project-small : (c : tie.After-days-in-year) → SmallCarbon (c .before .before .before .before .before .before .before .projected .result .carbon .0)
-project-small c = let pre = c .before .before .before .before .before .before .before .before .before .pre in carbon-small (c .before .before .before .before .before .before .before .before .before .args .matrix .now) (c .before .before .before .before .before .before .before .before .before .args .factors .now) (c .before .before .before .before .before .before .before .before .before .args .state .project) _ (pre .1 .0) (pre .1 .1 .0) (pre .0 .project) (c .before .before .before .before .before .before .before .projected .ensures)
+-- the places: after the projection of the belt, after that of the project, and the start
+abbrev at-belt : tie.After-days-in-year → tie.After-projected2
+at-belt c = c .before .before .before
 
-belt-small : (c : tie.After-days-in-year) → SmallCarbon (c .before .before .before .projected2 .result .carbon .0)
-belt-small c = let pre = c .before .before .before .before .before .before .before .before .before .pre in carbon-small (c .before .before .before .before .before .before .before .before .before .args .matrix .now) (c .before .before .before .before .before .before .before .before .before .args .factors .now) (c .before .before .before .before .before .before .before .before .before .args .state .belt) _ (pre .1 .0) (pre .1 .1 .0) (pre .0 .belt) (c .before .before .before .projected2 .ensures)
+abbrev at-project : tie.After-days-in-year → tie.After-projected
+at-project c = at-belt c .before .before .before .before
 
-days-are : (c : tie.After-days-in-year) → DaysOf (c .before .before .before .before .before .before .before .before .before .args .days) (c .days-in-year .result)
-days-are c = days-asked (c .before .before .before .before .before .before .before .before .before .args .days) (c .before .before .before .before .before .before .before .before .before .args .state .year) _ (c .before .before .before .before .before .before .before .before .before .pre .1 .1 .1 .4) (c .days-in-year .ensures)
+abbrev at-start : tie.After-days-in-year → tie.Start
+at-start c = at-project c .before .before
+
+project-small : (c : tie.After-days-in-year) → SmallCarbon (at-project c .projected .result .carbon .0)
+project-small c =
+    let (state, (rows, (fit, asked))) = at-start c .pre in
+    let a = at-start c .args in
+    carbon-small (a .matrix .now) (a .factors .now) _ _ rows fit (state .project) (at-project c .projected .ensures)
+
+belt-small : (c : tie.After-days-in-year) → SmallCarbon (at-belt c .projected2 .result .carbon .0)
+belt-small c =
+    let (state, (rows, (fit, asked))) = at-start c .pre in
+    let a = at-start c .args in
+    carbon-small (a .matrix .now) (a .factors .now) _ _ rows fit (state .belt) (at-belt c .projected2 .ensures)
+
+days-are : (c : tie.After-days-in-year) → DaysOf (at-start c .args .days) (c .days-in-year .result)
+days-are c = days-asked _ (at-start c .args .state .year) _ (at-start c .pre .1 .1 .1 .4) (c .days-in-year .ensures)
 
 projected-requires : tie.Need-projected-requires
 projected-requires c κs = search needs
@@ -26,21 +42,47 @@ days-in-year-requires : tie.Need-days-in-year-requires
 days-in-year-requires c κs = search needs
 
 year-figures-requires : tie.Need-year-figures-requires
-year-figures-requires c κs = let asked = c .before .before .before .before .before .before .before .before .before .pre .1 .1 .1 in (((project-small c, asked .0), (belt-small c, asked .1), asked .2), days-are c)
+year-figures-requires c κs =
+    let asked = at-start c .pre .1 .1 .1 in
+    (((project-small c, asked .0), (belt-small c, asked .1), asked .2), days-are c)
 
 plus-requires : tie.Need-plus-requires
-plus-requires c κs = let d = c .before .before .before in
-    let asked = c .before .before .before .before .before .before .before .before .before .before .before .before .pre .1 .1 .1 in
-    grown-fits (c .before .before .before .before .before .before .before .before .before .before .before .before .args .matrix .now) (c .before .before .before .before .before .before .before .before .before .before .before .before .args .factors .now) (c .before .before .before .before .before .before .before .before .before .before .before .before .args .state) (c .before .before .before .before .before .before .before .before .before .before .before .before .args .days) (c .before .before .before .before .before .before .before .before .before .before .before .before .args .project) (c .before .before .before .before .before .before .before .before .before .before .before .before .args .belt) (c .before .before .before .before .before .before .before .before .before .before .before .before .args .activity) (c .before .before .before .before .before .before .before .before .before .before .projected .result) (c .before .before .before .before .before .before .projected2 .result) (c .before .before .before .days-in-year .result) (c .before .before .year-figures .result) (c .before .before .before .before .before .before .before .before .before .before .projected .ensures) (c .before .before .before .before .before .before .projected2 .ensures) (c .before .before .before .days-in-year .ensures) (c .before .before .year-figures .ensures) (project-small d, asked .0) (belt-small d, asked .1) (asked .2) (days-are d) (c .before .before .before .before .before .before .before .before .before .before .before .before .pre .0 .total)
+plus-requires c κs =
+    let at-figures = c .before .before in
+    let at-days = at-figures .before in
+    let start = at-start at-days in
+    let a = start .args in
+    let asked = start .pre .1 .1 .1 in
+    grown-fits (a .matrix .now) (a .factors .now) (a .state) _ _ _ _ _ _ _ _
+    (at-project at-days .projected .ensures)
+    (at-belt at-days .projected2 .ensures)
+    (at-days .days-in-year .ensures)
+    (at-figures .year-figures .ensures)
+    (project-small at-days, asked .0)
+    (belt-small at-days, asked .1)
+    (asked .2)
+    (days-are at-days)
+    (start .pre .0 .total)
 
 add-t23 : tie.Need-add-t23
-add-t23 c = omega (arith, c .before .before .before .before .before .before .before .before .before .before .before .before .before .before .pre .0 .year)
+add-t23 c = let at-days = c .before .before .before .before .before in omega (arith, at-start at-days .pre .0 .year)
 
 sub-t24 : tie.Need-sub-t24
-sub-t24 c = c .before .before .before .before .before .before .before .before .before .before .before .before .before .before .before .pre .1 .1 .1 .3
+sub-t24 c = let at-days = c .before .before .before .before .before .before in at-start at-days .pre .1 .1 .1 .3
 
 returns : tie.Need-returns
-returns c = whole (c .before .before .before .before .before .before .before .before .before .before .before .before .before .before .before .args .matrix .now) (c .before .before .before .before .before .before .before .before .before .before .before .before .before .before .before .args .factors .now) (c .before .before .before .before .before .before .before .before .before .before .before .before .before .before .before .args .state) (c .before .before .before .before .before .before .before .before .before .before .before .before .before .before .before .args .days) (c .before .before .before .before .before .before .before .before .before .before .before .before .before .before .before .args .project) (c .before .before .before .before .before .before .before .before .before .before .before .before .before .before .before .args .belt) (c .before .before .before .before .before .before .before .before .before .before .before .before .before .before .before .args .activity) (c .before .before .before .before .before .before .before .before .before .before .before .before .before .projected .result) (c .before .before .before .before .before .before .before .before .before .projected2 .result) (c .before .before .before .before .before .before .days-in-year .result) (c .before .before .before .before .before .year-figures .result) (c .before .before .before .before .before .before .before .before .before .before .before .before .before .projected .ensures) (c .before .before .before .before .before .before .before .before .before .projected2 .ensures) (c .before .before .before .before .before .before .days-in-year .ensures) (c .before .before .before .before .before .year-figures .ensures) _ (c .before .before .plus .ensures)
+returns c =
+    let at-plus = c .before .before in
+    let at-figures = at-plus .before .before .before in
+    let at-days = at-figures .before in
+    let a = at-start at-days .args in
+    whole (a .matrix .now) (a .factors .now) (a .state) _ _ _ _ _ _ _ _
+    (at-project at-days .projected .ensures)
+    (at-belt at-days .projected2 .ensures)
+    (at-days .days-in-year .ensures)
+    (at-figures .year-figures .ensures)
+    _
+    (at-plus .plus .ensures)
 
 pub advance-spec : {M : Type 1} → statement M
 advance-spec =

@@ -3,9 +3,10 @@
 use Prim.Native.Nat.{_+_, _≤_}
 use mathlib.Core.Path.{_≡_}
 use native.Mathlib.Omega.{arith}
+use lib.Signed.{mag}
 use lib.ListN.{length, drop}
 use borrow.Author.Needs.{needs}
-use Rattle.figures.specs.Ranges.{SmallGrams}
+use Rattle.classes.specs.Ranges.{greatestActivity}
 use Rattle.dossier.specs.Reader.{accepted}
 use Rattle.activities.specs.Answers.{summedActivities, runSays, runInside}
 use Rattle.years.proofs.YearLaws.{rest-is, run-no, run-yes, run-refused, run-was-read}
@@ -20,7 +21,7 @@ run c = let a = c .before .before .before .args in rw (rest-is (a .s .now) (a .a
 -- a run that was read
 read : (c : tie.After-known-told2) → let a = c .before .before .before .before .before .before .args in let next = a .at + c .before .grams .given .0 .1 .0 in
     (accepted (c .before .grams .given .0 .0) (drop next (a .s .now)) ≡ summedActivities (drop (a .at) (a .s .now)))
-    × (next ≤ length (a .s .now)) × SmallGrams (c .before .grams .given .0 .0 .0)
+    × (next ≤ length (a .s .now)) × (mag (c .before .grams .given .0 .0 .0) ≤ greatestActivity)
 read c =
     let at-run = c .before .before .before in
     let at-start = at-run .before .before .before in

@@ -1,0 +1,32 @@
+-- The ladder of ranges: the greatest area, carbon and grams of each kind, by which every sum, difference and product of a reckoning fits 64 bits.
+-- Each rung holds what those below it make (proofs/RangeLaws); the contracts of all crates cite them. A rung may have room to spare.
+-- Assumes nothing.
+use Prim.Native.Nat.{ℕ}
+
+-- area units: document 01, "Each total is at most 10^12"
+abbrev pub greatestArea : ℕ
+greatestArea = 1_000_000_000_000
+
+-- carbon units: the greatest area by a factor of 16 bits, 65,535 at most
+abbrev pub greatestCarbon : ℕ
+greatestCarbon = 65_535_000_000_000_000
+
+-- grams that carbon makes, × 11 ÷ 300: a reference level, the emissions of a table
+abbrev pub greatestEmissions : ℕ
+greatestEmissions = 2_402_950_000_000_000
+
+-- grams of one activity record. (Those of FU, VE, NI and LI are below 4 × 10^12.)
+abbrev pub greatestRecord : ℕ
+greatestRecord = 3_230_000_000_000_000
+
+-- grams of a year's activity records, 60 at most
+abbrev pub greatestActivity : ℕ
+greatestActivity = 193_800_000_000_000_000
+
+-- grams of any of a year's eight figures, of either sign
+abbrev pub greatestFigure : ℕ
+greatestFigure = 210_000_000_000_000_000
+
+-- grams of the total of 20 years, of either sign
+abbrev pub greatestTotal : ℕ
+greatestTotal = 4_200_000_000_000_000_000

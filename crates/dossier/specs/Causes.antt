@@ -1,0 +1,85 @@
+-- Document 01, "Causes and numbers": the number of each cause, by a name. Above each stands its row of the document's table, cause and number; of
+-- all of them the number is returned, no totals, and buffer and ledger are left as they were.
+-- Assumes nothing.
+use Prim.Native.Nat.{ℕ}
+use mathlib.Core.Path.{_≡_}
+use mathlib.Core.Logic.{_⊎_}
+use mathlib.Core.List.{List, [], _∷_, _++_}
+
+-- "bytes end before or inside a mark still needed, or inside a record | 1"
+abbrev pub bytesMissing : ℕ
+bytesMissing = 1
+
+-- "mark not due here, or bytes after EN | 2"
+abbrev pub markNotDue : ℕ
+markNotDue = 2
+
+-- "HD field out of range | 3"
+abbrev pub headOutOfRange : ℕ
+headOutOfRange = 3
+
+-- "PA or DA total wrong | 4"
+abbrev pub areaTotalWrong : ℕ
+areaTotalWrong = 4
+
+-- "MP row sum wrong | 5"
+abbrev pub rowSumWrong : ℕ
+rowSumWrong = 5
+
+-- "year not the next, none left, or d wrong | 6"
+abbrev pub yearWrong : ℕ
+yearWrong = 6
+
+-- "CP or CD total wrong | 7"
+abbrev pub conversionTotalWrong : ℕ
+conversionTotalWrong = 7
+
+-- "activity field, or VE product, out of range | 8"
+abbrev pub activityOutOfRange : ℕ
+activityOutOfRange = 8
+
+-- "61st activity record of a year | 9"
+abbrev pub tooManyActivities : ℕ
+tooManyActivities = 9
+
+-- "buffer under 64 × n + 32 bytes | 10"
+abbrev pub bufferTooShort : ℕ
+bufferTooShort = 10
+
+-- the whole table
+abbrev pub causes : List ℕ
+causes =
+    bytesMissing ∷ markNotDue ∷ headOutOfRange ∷ areaTotalWrong ∷ rowSumWrong ∷ yearWrong ∷ conversionTotalWrong ∷ activityOutOfRange ∷ tooManyActivities
+    ∷ bufferTooShort ∷ []
+
+-- ---- the causes for which each call may refuse
+-- HD, PA, DA and MP
+abbrev pub openingCauses : List ℕ
+openingCauses = bytesMissing ∷ markNotDue ∷ headOutOfRange ∷ areaTotalWrong ∷ rowSumWrong ∷ []
+
+-- YR, CP, CD and the activity records
+abbrev pub yearCauses : List ℕ
+yearCauses = bytesMissing ∷ markNotDue ∷ yearWrong ∷ conversionTotalWrong ∷ activityOutOfRange ∷ tooManyActivities ∷ []
+
+-- a dossier, by its opening, its years and EN: every cause but the buffer's
+abbrev pub dossierCauses : List ℕ
+dossierCauses = openingCauses ++ yearCauses
+
+-- a closing: the buffer's alone
+abbrev pub closingCauses : List ℕ
+closingCauses = bufferTooShort ∷ []
+
+-- ---- numbers
+infix 4 _∈_
+-- n is one of these
+abbrev pub _∈_ : ℕ → List ℕ → Type 0
+_∈_ n [] = ⊥
+_∈_ n (c ∷ rest) = (n ≡ c) ⊎ (n ∈ rest)
+
+-- n is the number of a cause
+abbrev pub Cause : ℕ → Type 0
+Cause n = n ∈ causes
+
+-- what a call may answer that refuses for these causes alone: 0, or the number of one of them
+abbrev pub ZeroOr : List ℕ → ℕ → Type 0
+ZeroOr allowed n = (n ≡ 0) ⊎ (n ∈ allowed)
