@@ -19,7 +19,7 @@ use Rattle.reckoning.specs.Step.{yearAdvanced}
 use Rattle.reckoner.specs.declared.Ledger.{Ledger}
 use Rattle.reckoner.specs.declared.Answer.{Answer}
 use Rattle.reckoner.specs.Ledger.{newLedger, openedLedger, dueOf, givenYear, givenYears, ledgerOf}
-use Rattle.reckoner.specs.Calls.{answerNumber, openCall, yearCall, closeCall, closedBuffer, dossierCall, reckonNumber, reckonBuffer}
+use Rattle.reckoner.specs.Calls.{answerNumber, openCall, yearCall, closedBuffer, dossierCall, reckonSays, reckonNumber, reckonBuffer}
 use Rattle.reckoner.proofs.Numbers.{number-zero}
 use Rattle.promises.specs.CallList.{Call, giving, called, afterCall, afterCalls, ledgerAfter, LentBytes, broughtYear, acceptedYears, yearsAfter, standingCalls, standing}
 use Rattle.promises.specs.Reported.{Reported}
@@ -88,8 +88,8 @@ module _ (s : List ℕ) (b : Bytes s) (d : Dossier) (h : DossierInRange d) (e : 
   whole-is = rw (e, dossier-accepted .complete d h)
 
   same : SameInPieces s first calls
-  unfolding reckonNumber reckonBuffer
-  same = record { number = λ size. rw (whole-is, ledger-is); buffers = λ buffer. rw (whole-is, ledger-is) }
+  unfolding reckonSays reckonBuffer
+  same = record { says = λ size. rw (whole-is, ledger-is); buffers = λ buffer. rw (whole-is, ledger-is) }
 
   list : ListAssured first calls
   list = demand3 first (bytes-before first _ lent) calls (lent-years (d .years) (bytes 2 EN) (bytes-after first _ lent))

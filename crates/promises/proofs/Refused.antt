@@ -3,7 +3,7 @@
 use Prim.Native.Nat.{ℕ, _+_, _*_}
 use mathlib.Core.Path.{_≡_, refl}
 use mathlib.Core.Bool.{Bool, true, false, cond}
-use mathlib.Core.List.{List}
+use mathlib.Core.List.{List, []}
 use lib.Dec.{ltb}
 use lib.ListN.{length}
 use Rattle.wire.specs.Signed.{written}
@@ -13,9 +13,8 @@ use Rattle.dossier.specs.Reader.{Judged, refused, accepted}
 use Rattle.dossier.specs.Judging.{dossier, openingPiece, yearPiece}
 use Rattle.reckoner.specs.declared.Ledger.{Ledger}
 use Rattle.reckoner.specs.declared.Answer.{Answer}
-use Rattle.reckoner.specs.declared.Step.{Step}
 use Rattle.reckoner.specs.Ledger.{emptyLedger, dueOf, report}
-use Rattle.reckoner.specs.Calls.{answered, answerNumber, openJudged, openCall, yearJudged, yearCall, closeCall, closedBuffer, dossierCall, reckonNumber, reckonBuffer}
+use Rattle.reckoner.specs.Calls.{answered, said, answerNumber, openJudged, openCall, yearJudged, yearCall, closeCall, closeSays, closedBuffer, dossierCall, reckonSays, reckonNumber, reckonBuffer}
 use Rattle.promises.specs.Refusals.{RefusalsLeave}
 
 open-refused : (piece : List ℕ) → (answerNumber (openCall piece .answer) ≡ 0 → ⊥) → openCall piece .ledger ≡ emptyLedger
@@ -34,24 +33,22 @@ year-refused l piece = go (yearPiece (dueOf l) piece)
     go (refused n) h = refl
     go (accepted y rest) h = absurd (h refl)
 
-close-refused : (l : Ledger) (buffer : List ℕ) → (answerNumber (closeCall l (length buffer) .answer) ≡ 0 → ⊥) → closedBuffer l buffer ≡ buffer
+close-refused : (l : Ledger) (buffer : List ℕ) → (closeSays l (length buffer) .number ≡ 0 → ⊥) → closedBuffer l buffer ≡ buffer
 unfolding closeCall closedBuffer
 close-refused l buffer = go (ltb (length buffer) (64 * l .given + 32))
   where
-    go : (b : Bool) → (answerNumber (cond b (Answer.Refused 10) Answer.Accepted) ≡ 0 → ⊥) → cond b buffer (written (report l) buffer) ≡ buffer
+    go : (b : Bool) → (said (cond b (Answer.Refused 10) Answer.Accepted) (report l) .number ≡ 0 → ⊥) → cond b buffer (written (report l) buffer) ≡ buffer
     go true h = refl
     go false h = absurd (h refl)
 
 reckon-refused : (s buffer : List ℕ) → (reckonNumber s (length buffer) ≡ 0 → ⊥) → reckonBuffer s buffer ≡ buffer
-unfolding reckonNumber reckonBuffer
-reckon-refused s buffer = go (dossierCall s)
+unfolding reckonSays reckonBuffer
+reckon-refused s buffer = go (dossierCall s .answer) (dossierCall s .ledger)
   where
-    go : (r : Step) → (answered (r .answer) (λ n. n) (answerNumber (closeCall (r .ledger) (length buffer) .answer)) ≡ 0 → ⊥) → answered (r .answer) (λ n. buffer) (closedBuffer (r .ledger) buffer) ≡ buffer
-    go r = by (r .answer)
-      where
-        by : (a : Answer) → (answered a (λ n. n) (answerNumber (closeCall (r .ledger) (length buffer) .answer)) ≡ 0 → ⊥) → answered a (λ n. buffer) (closedBuffer (r .ledger) buffer) ≡ buffer
-        by Answer.Accepted h = close-refused (r .ledger) buffer h
-        by (Answer.Refused n) h = refl
+    go : (a : Answer) (l : Ledger) → (answered a (λ n. said (Answer.Refused n) []) (closeSays l (length buffer)) .number ≡ 0 → ⊥)
+        → answered a (λ n. buffer) (closedBuffer l buffer) ≡ buffer
+    go Answer.Accepted l h = close-refused l buffer h
+    go (Answer.Refused n) l h = refl
 
 pub refusals-leave : RefusalsLeave
 refusals-leave = record { opening = open-refused; year = year-refused; close = close-refused; closing = λ l size. unfold closeCall in refl; reckoning = reckon-refused }

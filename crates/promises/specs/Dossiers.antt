@@ -8,14 +8,14 @@ use Rattle.figures.specs.Year.{Year}
 use Rattle.wire.specs.Bytes.{bytes, joined}
 use Rattle.dossier.specs.Marks.{EN}
 use Rattle.dossier.specs.Records.{openingBytes, settled, yearBytes, Dossier, DossierInRange, dossierBytes}
-use Rattle.reckoner.specs.Calls.{answerNumber, openCall, closeCall, closedBuffer, reckonNumber, reckonBuffer}
+use Rattle.reckoner.specs.Calls.{answerNumber, openCall, closeSays, closedBuffer, reckonSays, reckonBuffer}
 use Rattle.promises.specs.CallList.{Call, giving, ledgerAfter, yearsAfter, standing}
 use Rattle.promises.specs.Reported.{Reported}
 use Rattle.promises.specs.Lists.{ListAssured}
 
--- the whole reckoning of s is an opening and calls, and closing then: the same number, and the same bytes, whatever the buffer
+-- the whole reckoning of s is an opening and calls, and closing then: they say the same and write the same bytes, whatever the buffer
 pub record SameInPieces (s opening : List ℕ) (calls : List Call) : Type 0 where
-  pub number : (size : ℕ) → reckonNumber s size ≡ answerNumber (closeCall (ledgerAfter opening calls) size .answer)
+  pub says : (size : ℕ) → reckonSays s size ≡ closeSays (ledgerAfter opening calls) size
   pub buffers : (buffer : List ℕ) → reckonBuffer s buffer ≡ closedBuffer (ledgerAfter opening calls) buffer
 
 -- the years of a dossier, each given by its own bytes

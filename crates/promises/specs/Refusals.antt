@@ -6,12 +6,12 @@ use mathlib.Core.List.{List}
 use lib.ListN.{length}
 use Rattle.reckoner.specs.declared.Ledger.{Ledger}
 use Rattle.reckoner.specs.Ledger.{emptyLedger}
-use Rattle.reckoner.specs.Calls.{answerNumber, openCall, yearCall, closeCall, closedBuffer, reckonNumber, reckonBuffer}
+use Rattle.reckoner.specs.Calls.{answerNumber, openCall, yearCall, closeCall, closeSays, closedBuffer, reckonNumber, reckonBuffer}
 
 -- of any bytes, any ledger and any buffer
 pub record RefusalsLeave : Type 0 where
   pub opening : (piece : List ℕ) → (answerNumber (openCall piece .answer) ≡ 0 → ⊥) → openCall piece .ledger ≡ emptyLedger
   pub year : (l : Ledger) (piece : List ℕ) → (answerNumber (yearCall l piece .answer) ≡ 0 → ⊥) → yearCall l piece .ledger ≡ l
-  pub close : (l : Ledger) (buffer : List ℕ) → (answerNumber (closeCall l (length buffer) .answer) ≡ 0 → ⊥) → closedBuffer l buffer ≡ buffer
+  pub close : (l : Ledger) (buffer : List ℕ) → (closeSays l (length buffer) .number ≡ 0 → ⊥) → closedBuffer l buffer ≡ buffer
   pub closing : (l : Ledger) (size : ℕ) → closeCall l size .ledger ≡ l
   pub reckoning : (s buffer : List ℕ) → (reckonNumber s (length buffer) ≡ 0 → ⊥) → reckonBuffer s buffer ≡ buffer

@@ -22,8 +22,8 @@ use Rattle.dossier.proofs.WellFormed.{dossier-accepted}
 use Rattle.dossier.proofs.FirstBytes.{first-bytes-settle}
 use Rattle.reckoner.specs.declared.Ledger.{Ledger}
 use Rattle.reckoner.specs.declared.Answer.{Answer}
-use Rattle.reckoner.specs.Ledger.{newLedger, openedLedger, givenYear, givenYears, ledgerOf, firstYear}
-use Rattle.reckoner.specs.Calls.{answerNumber, closeCall, dossierCall, reckonNumber}
+use Rattle.reckoner.specs.Ledger.{newLedger, openedLedger, givenYear, givenYears, ledgerOf, firstYear, report}
+use Rattle.reckoner.specs.Calls.{said, closeCall, closeSays, dossierCall, reckonSays, reckonNumber}
 
 -- every year given is counted
 pub given-count : (ys : List Year) (l : Ledger) → givenYears ys l .given ≡ l .given + length ys
@@ -48,13 +48,13 @@ first-is d h =
 
 -- "10 comes last": the dossier's own number counts before the buffer's
 pub number-refused : (s : List ℕ) (size n : ℕ) → dossier s ≡ refused n → reckonNumber s size ≡ n
-unfolding reckonNumber dossierCall
-number-refused s size n e = rw e
+unfolding reckonSays dossierCall
+number-refused s size n e = rw (reckonNumber, e)
 
 module _ (s : List ℕ) (size : ℕ) (d : Dossier) (rest : List ℕ) (e : dossier s ≡ accepted d rest) where
-  number-accepted : reckonNumber s size ≡ answerNumber (closeCall (ledgerOf d) size .answer)
-  unfolding reckonNumber dossierCall
-  number-accepted = rw e
+  number-accepted : reckonNumber s size ≡ closeSays (ledgerOf d) size .number
+  unfolding reckonSays dossierCall
+  number-accepted = rw (reckonNumber, e)
 
   pub number-short : size < 64 * ledgerOf d .given + 32 → reckonNumber s size ≡ 10
   number-short h = number-accepted ∙ unfold closeCall in simp (lt-ltb _ _ h)
@@ -86,15 +86,15 @@ number-zero s b size = (there, back (dossier s) refl)
 pub numbers : (s : List ℕ) (size : ℕ) → reckonNumber s size ≤ 10
 numbers s size = go (dossier s) refl
   where
-    closed : (b : Bool) → answerNumber (cond b (Answer.Refused 10) Answer.Accepted) ≤ 10
-    closed true = omega arith
-    closed false = omega arith
+    closed : (l : Ledger) (b : Bool) → said (cond b (Answer.Refused 10) Answer.Accepted) (report l) .number ≤ 10
+    closed l true = omega arith
+    closed l false = omega arith
 
     go : (j : Judged Dossier) → dossier s ≡ j → reckonNumber s size ≤ 10
     go (refused n) e = let c = dossier-causes s n e in let y = number-refused s size n e in omega arith
-    go (accepted d t) e = rw (number-accepted s size d t e) (unfold closeCall in closed (ltb size (64 * ledgerOf d .given + 32)))
+    go (accepted d t) e = rw (number-accepted s size d t e) (unfold closeCall in closed (ledgerOf d) (ltb size (64 * ledgerOf d .given + 32)))
 
 -- the first 65,536 bytes settle it, for any buffer
 pub same-number : (s : List ℕ) → Bytes s → (size : ℕ) → reckonNumber (take 65536 s) size ≡ reckonNumber s size
-unfolding reckonNumber dossierCall
-same-number s bs size = rw (first-bytes-settle s bs)
+unfolding reckonSays dossierCall
+same-number s bs size = rw (reckonNumber, first-bytes-settle s bs)
