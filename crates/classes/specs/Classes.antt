@@ -10,6 +10,33 @@ use lib.ListN.{getD}
 abbrev pub classes : ℕ
 classes = 12
 
+abbrev pub E : ℕ
+E = 0
+
+abbrev pub SE : ℕ
+SE = 1
+
+abbrev pub P : ℕ
+P = 2
+
+abbrev pub D : ℕ
+D = 3
+
+abbrev pub B : ℕ
+B = 4
+
+abbrev pub M : ℕ
+M = 5
+
+abbrev pub MR : ℕ
+MR = 6
+
+abbrev pub FF : ℕ
+FF = 7
+
+abbrev pub FR : ℕ
+FR = 8
+
 abbrev pub TP : ℕ
 TP = 9
 

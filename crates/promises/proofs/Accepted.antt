@@ -17,8 +17,8 @@ use Rattle.dossier.specs.Judging.{openingPiece, yearPiece}
 use Rattle.dossier.proofs.Numbers.{opening-zero, year-zero}
 use Rattle.reckoner.specs.declared.Ledger.{Ledger}
 use Rattle.reckoner.specs.declared.Answer.{Answer}
-use Rattle.reckoner.specs.Ledger.{dueOf}
-use Rattle.reckoner.specs.Calls.{answerNumber, openJudged, openCall, yearJudged, yearCall, closeCall, HandedBack, reckonNumber}
+use Rattle.reckoner.specs.Ledger.{dueOf, report}
+use Rattle.reckoner.specs.Calls.{said, answerNumber, openJudged, openCall, yearJudged, yearCall, closeCall, closeSays, HandedBack, reckonNumber}
 use Rattle.promises.specs.Accepted.{AcceptedWhen}
 use Rattle.reckoner.proofs.Invariant.{handed-kept, due-kept}
 use Rattle.reckoner.proofs.Numbers.{number-zero}
@@ -40,11 +40,11 @@ year-when : {l : Ledger} → HandedBack l → (piece : List ℕ) → Bytes piece
 unfolding yearCall
 year-when {l} k piece b = rw (year-number l (yearPiece (dueOf l) piece)) (Iff·symm (year-zero (dueOf l) (due-kept l (handed-kept k)) piece b))
 
-close-when : (l : Ledger) (size : ℕ) → (answerNumber (closeCall l size .answer) ≡ 0) ↔ (64 * l .given + 32 ≤ size)
+close-when : (l : Ledger) (size : ℕ) → (closeSays l size .number ≡ 0) ↔ (64 * l .given + 32 ≤ size)
 unfolding closeCall
 close-when l size = (go (ltb size (64 * l .given + 32)) refl, λ h. rw (le-ltb size (64 * l .given + 32) h))
   where
-    go : (b : Bool) → ltb size (64 * l .given + 32) ≡ b → answerNumber (cond b (Answer.Refused 10) Answer.Accepted) ≡ 0 → 64 * l .given + 32 ≤ size
+    go : (b : Bool) → ltb size (64 * l .given + 32) ≡ b → said (cond b (Answer.Refused 10) Answer.Accepted) (report l) .number ≡ 0 → 64 * l .given + 32 ≤ size
     go true e h = absurd (omega arith)
     go false e h = ltb-false size (64 * l .given + 32) e
 

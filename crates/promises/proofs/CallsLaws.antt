@@ -6,6 +6,7 @@ use mathlib.Core.Logic.{_↔_}
 use mathlib.Core.List.{List, [], _∷_, _++_}
 use native.Mathlib.Omega.{arith}
 use lib.ListN.{length, take}
+use borrow.Author.Tests.{ne-eqb}
 use Rattle.wire.specs.Bytes.{Bytes}
 use Rattle.figures.specs.Year.{Year}
 use Rattle.dossier.specs.Causes.{yearCauses}
@@ -62,7 +63,8 @@ giving-verdict : (piece : List ℕ) (l : Ledger) (j : Judged Year) → yearPiece
     → ((y : Year) (rest : List ℕ) → j ≡ accepted y rest → YearInRange (dueOf l) y) → Verdict (giving piece) l
 unfolding broughtYear afterCall called yearCall
 giving-verdict piece l (refused n) e h =
-    nothing (ap judgedYear e) (ap (λ (j : Judged Year). yearJudged l j .ledger) e) (ap (λ (j : Judged Year). standingCall (giving piece) (yearJudged l j .answer)) e)
+    nothing (ap judgedYear e) (ap (λ (j : Judged Year). yearJudged l j .ledger) e)
+    (ap (λ (j : Judged Year). standingCall (giving piece) (yearJudged l j .answer)) e ∙ rw (ne-eqb n 0 (λ z. omega (arith, positive yearCauses tt n (yearPiece-causes (dueOf l) piece n e)))))
 giving-verdict piece l (accepted y rest) e h =
     let t = taken piece l y rest e in
     brings y (h y rest refl) (t .brought) (t .after) (t .stand)

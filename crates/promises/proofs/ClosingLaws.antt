@@ -35,20 +35,16 @@ fit-at [] h i l = absurd (omega arith)
 fit-at (z ∷ zs) h zero l = h .0
 fit-at (z ∷ zs) h (suc i) l = fit-at zs (h .1) i (omega arith)
 
+fit-four : (a b c d : ℤ) → mag a < 2 ^ 63 → mag b < 2 ^ 63 → mag c < 2 ^ 63 → mag d < 2 ^ 63 → Fit (a ∷ b ∷ c ∷ d ∷ [])
+fit-four a b c d p q r s = (p, (q, (r, (s, tt))))
+
 fit-eight : (f : Figures) → FiguresSmall f → Fit (eight f)
-fit-eight f s = (
-  omega (arith, s .reference),
-  (
-    omega (arith, s .project),
-    (
-      omega (arith, s .activity),
-      (
-        omega (arith, s .belt),
-        (omega (arith, s .belt-reference), (omega (arith, s .displaced), (omega (arith, s .reduction), (omega (arith, s .credited), tt)))),
-      ),
-    ),
-  ),
-)
+fit-eight f s =
+    let first = fit-four (f .reference .0) (f .project .0) (f .activity .0) (f .belt .0)
+    (omega (arith, s .reference)) (omega (arith, s .project)) (omega (arith, s .activity)) (omega (arith, s .belt)) in
+    let second = fit-four (f .«belt_reference» .0) (f .displaced .0) (f .reduction .0) (f .credited .0)
+    (omega (arith, s .belt-reference)) (omega (arith, s .displaced)) (omega (arith, s .reduction)) (omega (arith, s .credited)) in
+    fit-append (take 4 (eight f)) (drop 4 (eight f)) first second
 
 fit-eights : (fs : List Figures) → ((k : ℕ) → k < length fs → FiguresSmall (getD fs k noFigures)) → Fit (eights fs)
 unfolding eights
@@ -74,44 +70,64 @@ eights-at (f ∷ fs) rest (suc k) j h q =
     let e : 8 * suc k + j ≡ 8 + (8 * k + j) = omega arith in
     rw (append-assoc (eight f) (eights fs) rest, e) (getD-append-add (eight f) (eights fs ++ rest) (8 * k + j) (pos 0) ∙ eights-at fs rest k j (omega arith) q)
 
--- ---- a ledger that the calls handed back, closed with a buffer long enough
-module _ (l : Ledger) (kept : LedgerKept l) (buffer : List ℕ) (h : 64 * l .given + 32 ≤ length buffer) where
+-- ---- the report of a ledger that the calls handed back
+module _ (l : Ledger) (kept : LedgerKept l) where
+  few : length (take (l .given) (l .figures)) ≡ l .given
+  few = length-take-le (l .given) (l .figures) (omega (arith, kept .count, kept .twenty))
+
   years : List ℤ
   years = eights (take (l .given) (l .figures))
 
   last : List ℤ
   last = closing (l .state .total .0) (l .state .project .balance .0) (l .state .belt .balance .0)
 
+  report-is : report l ≡ years ++ last
+  unfolding report reported years last
+  report-is = refl
+
   count : length years ≡ 8 * l .given
   unfolding years
   count = length-years (l .given) (l .figures) (omega (arith, kept .count, kept .twenty))
 
-  few : length (take (l .given) (l .figures)) ≡ l .given
-  few = length-take-le (l .given) (l .figures) (omega (arith, kept .count, kept .twenty))
+  pub report-count : length (report l) ≡ 8 * l .given + 4
+  unfolding last
+  report-count = rw (report-is, length-append) (omega (arith, count))
 
-  fits : Fit (years ++ last)
-  unfolding years last
-  fits = fit-append years last
-      (fit-eights (take (l .given) (l .figures)) (λ m r. let q : m < l .given = omega (arith, few) in rw (getD-take (l .given) (l .figures) m noFigures q) (kept .figures m q)))
-      (omega (arith, kept .total, kept .count), (omega (arith, tonnes-le (l .state .total .0), kept .total, kept .count), (omega (arith, kept .project), (omega (arith, kept .belt), tt))))
-
-  written-is : closedBuffer l buffer ≡ written (years ++ last) buffer
-  unfolding closedBuffer report reported years last
-  written-is = rw (le-ltb (length buffer) (64 * l .given + 32) h)
-
-  -- the i-th number of what closing reports is read back from its eight bytes
-  back : (i : ℕ) → i < length (years ++ last) → figureAt (closedBuffer l buffer) (8 * i) ≡ getD (years ++ last) i (pos 0)
-  back i q = rw written-is (written-at (years ++ last) fits buffer i q)
-
-  pub year-figure : (k j : ℕ) → k < l .given → j < 8 → figureAt (closedBuffer l buffer) (64 * k + 8 * j) ≡ getD (eight (getD (l .figures) k noFigures)) j (pos 0)
+  years-fit : Fit years
   unfolding years
-  year-figure k j hk hj =
-      let e : 8 * (8 * k + j) ≡ 64 * k + 8 * j = omega arith in
-      ap (figureAt (closedBuffer l buffer)) (sym e) ∙ back (8 * k + j) (simp length-append (omega (arith, count)))
-      ∙ eights-at (take (l .given) (l .figures)) last k j (omega (arith, few)) hj ∙ ap (λ (f : Figures). getD (eight f) j (pos 0)) (getD-take (l .given) (l .figures) k noFigures hk)
+  years-fit = fit-eights (take (l .given) (l .figures)) (λ m r.
+      let q : m < l .given = omega (arith, few) in
+      rw (getD-take (l .given) (l .figures) m noFigures q) (kept .figures m q))
 
-  -- total, tonnes, project balance, belt balance
-  pub last-figure : (j : ℕ) → j < 4 → figureAt (closedBuffer l buffer) (64 * l .given + 8 * j) ≡ getD (closing (l .state .total .0) (l .state .project .balance .0) (l .state .belt .balance .0)) j (pos 0)
-  last-figure j hj =
-      let e : 8 * (length years + j) ≡ 64 * l .given + 8 * j = omega (arith, count) in
-      ap (figureAt (closedBuffer l buffer)) (sym e) ∙ back (length years + j) (simp length-append (unfold last in omega arith)) ∙ getD-append-add years last j (pos 0) ∙ unfold last in refl
+  last-fit : Fit last
+  unfolding last
+  last-fit = fit-four (l .state .total .0) (pos (tonnesOf (l .state .total .0))) (pos (l .state .project .balance .0)) (pos (l .state .belt .balance .0))
+      (omega (arith, kept .total, kept .count)) (omega (arith, tonnes-le (l .state .total .0), kept .total, kept .count))
+      (omega (arith, kept .project)) (omega (arith, kept .belt))
+
+  -- ---- written into a buffer long enough
+  module _ (buffer : List ℕ) (h : 64 * l .given + 32 ≤ length buffer) where
+    written-is : closedBuffer l buffer ≡ written (report l) buffer
+    unfolding closedBuffer
+    written-is = rw (le-ltb (length buffer) (64 * l .given + 32) h)
+
+    -- its i-th number is read back from its eight bytes
+    pub report-back : (i : ℕ) → i < length (report l) → figureAt (closedBuffer l buffer) (8 * i) ≡ getD (report l) i (pos 0)
+    report-back i q = rw written-is (written-at (report l) (rw report-is (fit-append years last years-fit last-fit)) buffer i q)
+
+    pub year-figure : (k j : ℕ) → k < l .given → j < 8 → figureAt (closedBuffer l buffer) (64 * k + 8 * j) ≡ getD (eight (getD (l .figures) k noFigures)) j (pos 0)
+    unfolding years
+    year-figure k j hk hj =
+        let e : 8 * (8 * k + j) ≡ 64 * k + 8 * j = omega arith in
+        ap (figureAt (closedBuffer l buffer)) (sym e) ∙ report-back (8 * k + j) (omega (arith, report-count)) ∙ ap (λ (zs : List ℤ). getD zs (8 * k + j) (pos 0)) report-is
+        ∙ eights-at (take (l .given) (l .figures)) last k j (omega (arith, few)) hj
+        ∙ ap (λ (f : Figures). getD (eight f) j (pos 0)) (getD-take (l .given) (l .figures) k noFigures hk)
+
+    -- total, tonnes, project balance, belt balance
+    pub last-figure : (j : ℕ) → j < 4
+        → figureAt (closedBuffer l buffer) (64 * l .given + 8 * j) ≡ getD (closing (l .state .total .0) (l .state .project .balance .0) (l .state .belt .balance .0)) j (pos 0)
+    unfolding last
+    last-figure j hj =
+        let e : 8 * (length years + j) ≡ 64 * l .given + 8 * j = omega (arith, count) in
+        ap (figureAt (closedBuffer l buffer)) (sym e) ∙ report-back (length years + j) (omega (arith, report-count, count))
+        ∙ ap (λ (zs : List ℤ). getD zs (length years + j) (pos 0)) report-is ∙ getD-append-add years last j (pos 0)

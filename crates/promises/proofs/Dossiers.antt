@@ -4,13 +4,13 @@ use Prim.Native.Nat.{ℕ, _+_, _*_, _≤_}
 use mathlib.Core.Path.{_≡_, refl, _∙_, ap, sym}
 use mathlib.Core.List.{List, [], _∷_, _++_, map, append-assoc, append-nil}
 use native.Mathlib.Omega.{arith}
-use lib.ListN.{length}
+use lib.ListN.{length, replicate}
 use Rattle.figures.specs.Year.{Year}
 use Rattle.wire.specs.Bytes.{Bytes, bytes, joined}
 use Rattle.wire.proofs.BytesLaws.{bytes-before, bytes-after}
 use Rattle.dossier.specs.Marks.{EN}
 use Rattle.dossier.specs.Records.{openingBytes, Due, settled, next, yearBytes, YearsInRange, Dossier, DossierInRange, dossierBytes}
-use Rattle.dossier.specs.Reader.{accepted}
+use Rattle.dossier.specs.Reader.{Judged, accepted}
 use Rattle.dossier.specs.Judging.{dossier, openingPiece, yearPiece}
 use Rattle.dossier.proofs.WellFormed.{dossier-accepted, opening-accepted}
 use Rattle.dossier.proofs.Pieces.{YearPieces, years-given}
@@ -19,8 +19,10 @@ use Rattle.reckoning.specs.Advanced.{yearAdvanced}
 use Rattle.reckoner.specs.declared.Ledger.{Ledger}
 use Rattle.reckoner.specs.declared.Answer.{Answer}
 use Rattle.reckoner.specs.Ledger.{newLedger, openedLedger, dueOf, givenYear, givenYears, ledgerOf}
-use Rattle.reckoner.specs.Calls.{answerNumber, openCall, yearCall, closeCall, closedBuffer, dossierCall, reckonNumber, reckonBuffer}
+use Rattle.reckoner.specs.Calls.{answerNumber, openCall, yearCall, closedBuffer, dossierCall, reckonSays, reckonNumber, reckonBuffer}
 use Rattle.reckoner.proofs.Numbers.{number-zero}
+use Rattle.sheet.specs.Sheet.{sheetOf}
+use Rattle.printout.specs.Printout.{printed, printout}
 use Rattle.promises.specs.CallList.{Call, giving, called, afterCall, afterCalls, ledgerAfter, LentBytes, broughtYear, acceptedYears, yearsAfter, standingCalls, standing}
 use Rattle.promises.specs.Reported.{Reported}
 use Rattle.promises.specs.Lists.{openedDue, ListAssured}
@@ -83,13 +85,16 @@ module _ (s : List ℕ) (b : Bytes s) (d : Dossier) (h : DossierInRange d) (e : 
   unfolding ledgerAfter ledgerOf
   ledger-is = rw opened-is (in-turn .ledger)
 
+  judged : dossier s ≡ accepted d []
+  judged = ap dossier e ∙ dossier-accepted .complete d h
+
   whole-is : dossierCall s ≡ record { ledger = ledgerOf d; answer = Answer.Accepted }
   unfolding dossierCall
-  whole-is = rw (e, dossier-accepted .complete d h)
+  whole-is = rw judged
 
   same : SameInPieces s first calls
-  unfolding reckonNumber reckonBuffer
-  same = record { number = λ size. rw (whole-is, ledger-is); buffers = λ buffer. rw (whole-is, ledger-is) }
+  unfolding reckonSays reckonBuffer
+  same = record { says = λ size. rw (whole-is, ledger-is); buffers = λ buffer. rw (whole-is, ledger-is) }
 
   list : ListAssured first calls
   list = demand3 first (bytes-before first _ lent) calls (lent-years (d .years) (bytes 2 EN) (bytes-after first _ lent))
@@ -97,6 +102,12 @@ module _ (s : List ℕ) (b : Bytes s) (d : Dossier) (h : DossierInRange d) (e : 
   years-are : yearsAfter first calls ≡ d .years
   unfolding yearsAfter
   years-are = rw opened-is (in-turn .years)
+
+  sheet-printed : printout s ≡ sheetOf (d .opening .head .firstYear) (length (d .years)) (reckonBuffer s (replicate 1312 0))
+  unfolding printout
+  sheet-printed =
+      ap (λ (j : Judged Dossier). printed j (reckonBuffer s (replicate 1312 0))) judged
+      ∙ ap (λ (n : ℕ). sheetOf (d .opening .head .firstYear) n (reckonBuffer s (replicate 1312 0))) (sym (h .count))
 
   pub dossier-assured : DossierAssured s d
   dossier-assured = record {
@@ -107,6 +118,7 @@ module _ (s : List ℕ) (b : Bytes s) (d : Dossier) (h : DossierInRange d) (e : 
     list = list;
     same = same;
     own = λ buffer k. rw (same .buffers buffer) (moved (ap openedDue opening-judged) years-are (list .after .closed buffer (rw years-are k)));
+    printed = sheet-printed;
   }
     where
       moved : {due due′ : Due} {ys ys′ : List Year} {closed : List ℕ} → due ≡ due′ → ys ≡ ys′ → Reported due ys closed → Reported due′ ys′ closed

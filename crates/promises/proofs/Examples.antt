@@ -25,16 +25,38 @@ use Rattle.reckoning.specs.Advanced.{yearAdvanced}
 use Rattle.report.specs.Report.{eights, reported}
 use Rattle.reckoner.specs.Ledger.{newLedger, openedLedger, dueOf, givenYear, givenYears, ledgerOf, report}
 use Rattle.reckoner.specs.Calls.{closedBuffer, dossierCall, reckonBuffer}
-use Rattle.promises.specs.Examples.{onlyE, caseA, bufferA, threeUnits, Example, examples}
+use Rattle.sheet.specs.Decimal.{digits, decimal, decimalOf}
+use Rattle.sheet.specs.Sheet.{header, spaced, yearLine, yearLines, named, totalLine, sheetOf}
+use Rattle.printout.specs.Printout.{printout}
+use Rattle.promises.specs.Examples.{caseA, bufferA, threeUnits, Example, examples}
 
 pub examples-hold : map (λ (e : Example). e .given) examples ≡ map (λ (e : Example). e .stated) examples
-unfolding examples onlyE caseA bufferA threeUnits figureAt signed fieldAt number reckonBuffer dossierCall closedBuffer written figuresBytes figureBytes twosComplement bytes report reported eights ledgerOf givenYears givenYear openedLedger newLedger dueOf yearAdvanced afterYear afterFigures yearFigures regionReference tableEmissions referenceLevel monitoredCarbon countedFactor stockChangeEmissions displacedEmissions reductionOf creditedOf tonnesOf figuresOf projectedCarbon nextArea nextAreas lostArea openedRegion projectedRegion projectedYear numerator denominator activityGrams activityEmissions carbonStocks deforestationProbabilities emissionFactor optionOne optionOneMatrix daysInYear sum listed ceilDiv floorDiv numbers bytesOfEach joined total headBytes areasBytes optionBytes openingBytes termsOf stateOf settled next conversionsBytes activityBytes yearBytes dossierBytes _>>=_ _>>_ give mark stands upon present begin field fields outside within equal nothing head areas matrixUnder conversions inRange fieldsOf activityMark activityUnder activity opening run activities yearRecords yearLeft year end years dossier
+unfolding examples caseA bufferA threeUnits
+    -- its bytes, and their judgement
+    bytes bytesOfEach joined headBytes areasBytes optionBytes openingBytes conversionsBytes activityBytes yearBytes dossierBytes
+    number numbers total _>>=_ _>>_ give mark stands upon present begin field fields outside within equal nothing
+    head areas matrixUnder conversions inRange fieldsOf activityMark activityUnder activity
+    opening run activities yearRecords yearLeft year end years dossier
+    -- classes, projection, activity records, figures
+    sum listed ceilDiv floorDiv carbonStocks deforestationProbabilities emissionFactor optionOne optionOneMatrix daysInYear
+    projectedCarbon nextArea nextAreas lostArea openedRegion projectedRegion projectedYear numerator denominator activityGrams activityEmissions
+    referenceLevel monitoredCarbon countedFactor stockChangeEmissions displacedEmissions reductionOf creditedOf tonnesOf figuresOf
+    regionReference tableEmissions yearFigures afterFigures afterYear yearAdvanced
+    -- the ledger, its report and the bytes written
+    termsOf stateOf settled next newLedger openedLedger dueOf givenYear givenYears ledgerOf dossierCall
+    report reported eights twosComplement figureBytes figuresBytes written closedBuffer reckonBuffer
+    -- read back, and printed
+    fieldAt signed figureAt digits decimal decimalOf header spaced yearLine yearLines named totalLine sheetOf printout
 examples-hold = refl
 
 -- the unrounded total of case A is 1,196,360,888 ÷ 3
 unroundedA : Fraction
 unroundedA = afterYearsᶠ (termsOf (caseA .opening)) (caseA .years) (openedᶠ (stateOf (caseA .opening))) .total
 
-unrounded-A : unroundedA .num *ℤ pos 3 ≡ pos 1196360888 *ℤ pos (unroundedA .den)
-unfolding unroundedA termsOf stateOf openedRegion afterYearsᶠ onlyE caseA afterYearᶠ openedᶠ flowᶠ carbonᶠ referenceᶠ emissionsᶠ activityᶠ displacedᶠ reductionᶠ creditedᶠ sumᶠ whole _+ᶠ_ _-ᶠ_ negᶠ _×ᶠ_ _÷ᶠ_by_ ifPositive monitoredCarbon countedFactor numerator denominator carbonStocks deforestationProbabilities emissionFactor optionOne optionOneMatrix daysInYear sum listed
+unrounded-A : unroundedA .num *ℤ pos 3 ≡ pos 1_196_360_888 *ℤ pos (unroundedA .den)
+unfolding unroundedA caseA termsOf stateOf openedRegion
+    sum listed carbonStocks deforestationProbabilities emissionFactor optionOne optionOneMatrix daysInYear
+    monitoredCarbon countedFactor numerator denominator
+    sumᶠ whole _+ᶠ_ _-ᶠ_ negᶠ _×ᶠ_ _÷ᶠ_by_ ifPositive
+    openedᶠ flowᶠ carbonᶠ referenceᶠ emissionsᶠ activityᶠ displacedᶠ reductionᶠ creditedᶠ afterYearᶠ afterYearsᶠ
 unrounded-A = refl

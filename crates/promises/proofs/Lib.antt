@@ -5,4 +5,5 @@ pub mod Demand3
 pub mod Dossiers
 pub mod Refused
 pub mod Accepted
+pub mod Values
 pub mod Examples

@@ -1,22 +1,27 @@
 -- Demand 1: a refused call leaves ledger and buffer as they were, and gives the number of one of its causes.
 -- Assumes nothing.
 use Prim.Native.Nat.{ℕ, _+_, _*_}
-use mathlib.Core.Path.{_≡_, refl}
+use mathlib.Core.Path.{_≡_, refl, ap, sym}
 use mathlib.Core.Bool.{Bool, true, false, cond}
-use mathlib.Core.List.{List}
+use mathlib.Core.List.{List, []}
+use native.Mathlib.Omega.{arith}
 use lib.Dec.{ltb}
-use lib.ListN.{length}
+use lib.ListN.{length, replicate}
+use Rattle.wire.specs.Bytes.{Bytes}
 use Rattle.wire.specs.Signed.{written}
 use Rattle.figures.specs.Year.{Year}
 use Rattle.dossier.specs.Causes.{bufferTooShort}
 use Rattle.dossier.specs.Records.{Opening, Dossier}
 use Rattle.dossier.specs.Reader.{Judged, refused, accepted}
 use Rattle.dossier.specs.Judging.{dossier, openingPiece, yearPiece}
+use Rattle.dossier.proofs.WellFormed.{dossier-accepted}
 use Rattle.reckoner.specs.declared.Ledger.{Ledger}
 use Rattle.reckoner.specs.declared.Answer.{Answer}
 use Rattle.reckoner.specs.Ledger.{emptyLedger, dueOf, report}
-use Rattle.reckoner.specs.Calls.{answered, answerNumber, openJudged, openCall, yearJudged, yearCall, closeCall, closedBuffer, dossierCall, reckonNumber, reckonBuffer}
-use Rattle.reckoner.proofs.Numbers.{open-numbers, year-numbers, close-numbers, reckon-numbers}
+use Rattle.reckoner.specs.Calls.{answered, said, answerNumber, openJudged, openCall, yearJudged, yearCall, closeCall, closeSays, closedBuffer, dossierCall, reckonSays, reckonNumber, reckonBuffer}
+use Rattle.reckoner.proofs.Numbers.{number-refused, number-zero, open-numbers, year-numbers, close-numbers, reckon-numbers}
+use Rattle.sheet.specs.Sheet.{refusalOf}
+use Rattle.printout.specs.Printout.{printed, printout}
 use Rattle.promises.specs.Refusals.{RefusalsLeave}
 
 open-refused : (piece : List ℕ) → (answerNumber (openCall piece .answer) ≡ 0 → ⊥) → openCall piece .ledger ≡ emptyLedger
@@ -35,22 +40,33 @@ year-refused l piece = go (yearPiece (dueOf l) piece)
     go (refused n) h = refl
     go (accepted y rest) h = absurd (h refl)
 
-close-refused : (l : Ledger) (buffer : List ℕ) → (answerNumber (closeCall l (length buffer) .answer) ≡ 0 → ⊥) → closedBuffer l buffer ≡ buffer
+close-refused : (l : Ledger) (buffer : List ℕ) → (closeSays l (length buffer) .number ≡ 0 → ⊥) → closedBuffer l buffer ≡ buffer
 unfolding closeCall closedBuffer
 close-refused l buffer = go (ltb (length buffer) (64 * l .given + 32))
   where
-    go : (b : Bool) → (answerNumber (cond b (Answer.Refused bufferTooShort) Answer.Accepted) ≡ 0 → ⊥) → cond b buffer (written (report l) buffer) ≡ buffer
+    go : (b : Bool) → (said (cond b (Answer.Refused bufferTooShort) Answer.Accepted) (report l) .number ≡ 0 → ⊥) → cond b buffer (written (report l) buffer) ≡ buffer
     go true h = refl
     go false h = absurd (h refl)
 
 reckon-refused : (s buffer : List ℕ) → (reckonNumber s (length buffer) ≡ 0 → ⊥) → reckonBuffer s buffer ≡ buffer
-unfolding reckonNumber reckonBuffer
+unfolding reckonSays reckonBuffer
 reckon-refused s buffer = go (dossierCall s .answer) (dossierCall s .ledger)
   where
-    go : (a : Answer) (l : Ledger) → (answered a (λ n. n) (answerNumber (closeCall l (length buffer) .answer)) ≡ 0 → ⊥)
+    go : (a : Answer) (l : Ledger) → (answered a (λ n. said (Answer.Refused n) []) (closeSays l (length buffer)) .number ≡ 0 → ⊥)
         → answered a (λ n. buffer) (closedBuffer l buffer) ≡ buffer
     go Answer.Accepted l h = close-refused l buffer h
     go (Answer.Refused n) l h = refl
+
+-- an accepted dossier has at most 20 years
+refusal-printed : (s : List ℕ) → Bytes s → (reckonNumber s 1312 ≡ 0 → ⊥) → printout s ≡ refusalOf (reckonNumber s 1312)
+unfolding printout
+refusal-printed s b h = go (dossier s) refl
+  where
+    go : (j : Judged Dossier) → dossier s ≡ j → printed j (reckonBuffer s (replicate 1312 0)) ≡ refusalOf (reckonNumber s 1312)
+    go (refused n) e = ap refusalOf (sym (number-refused s 1312 n e))
+    go (accepted d rest) e =
+        let w = dossier-accepted .sound s b d rest e in
+        absurd (h (number-zero s b 1312 .0 (d, w .0, w .1, omega (arith, w .0 .opening .head .count .most))))
 
 pub refusals-leave : RefusalsLeave
 refusals-leave = record {
@@ -63,4 +79,5 @@ refusals-leave = record {
   yearNumber = year-numbers;
   closingNumber = close-numbers;
   reckoningNumber = reckon-numbers;
+  printing = refusal-printed;
 }

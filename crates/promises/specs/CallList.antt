@@ -1,7 +1,9 @@
 -- Document 01, "Calls and sheet": "The list in demand 3 holds year calls .. and closings .., in any number and order, refused ones among them."
 -- Assumes nothing.
-use mathlib.Core.List.{List, [], _∷_, _++_}
 use Prim.Native.Nat.{ℕ}
+use mathlib.Core.Bool.{cond}
+use mathlib.Core.List.{List, [], _∷_, _++_}
+use lib.Dec.{eqb}
 use lib.ListN.{length}
 use Rattle.wire.specs.Bytes.{Bytes}
 use Rattle.figures.specs.Year.{Year}
@@ -11,7 +13,7 @@ use Rattle.reckoner.specs.declared.Ledger.{Ledger}
 use Rattle.reckoner.specs.declared.Answer.{Answer}
 use Rattle.reckoner.specs.declared.Step.{Step}
 use Rattle.reckoner.specs.Ledger.{dueOf}
-use Rattle.reckoner.specs.Calls.{answered, openCall, yearCall, closeCall}
+use Rattle.reckoner.specs.Calls.{answerNumber, openCall, yearCall, closeCall}
 
 -- "year calls, each lent bytes of its own, whatever they are, and closings, each lent a result buffer of any length"
 pub data Call : Type 0 where
@@ -59,9 +61,9 @@ acceptedYears (c ∷ calls) l = broughtYear c l ++ acceptedYears calls (afterCal
 unfoldable pub yearsAfter : (opening : List ℕ) → List Call → List Year
 yearsAfter opening calls = acceptedYears calls (openCall opening .ledger)
 
--- ---- the calls of a list that stand: its accepted year calls, in their order
+-- ---- the calls of a list that stand: its accepted year calls, those of number 0, in their order
 abbrev pub standingCall : Call → Answer → List Call
-standingCall (giving piece) answer = answered answer (λ n. []) (giving piece ∷ [])
+standingCall (giving piece) answer = cond (eqb (answerNumber answer) 0) (giving piece ∷ []) []
 standingCall (closing buffer) answer = []
 
 unfoldable pub standingCalls : List Call → Ledger → List Call

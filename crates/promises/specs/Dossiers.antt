@@ -3,19 +3,21 @@
 use Prim.Native.Nat.{ℕ, _+_, _*_, _≤_}
 use mathlib.Core.Path.{_≡_}
 use mathlib.Core.List.{List, _++_, map}
-use lib.ListN.{length}
+use lib.ListN.{length, replicate}
 use Rattle.figures.specs.Year.{Year}
 use Rattle.wire.specs.Bytes.{bytes, joined}
 use Rattle.dossier.specs.Marks.{EN}
 use Rattle.dossier.specs.Records.{openingBytes, settled, yearBytes, Dossier, DossierInRange, dossierBytes}
-use Rattle.reckoner.specs.Calls.{answerNumber, openCall, closeCall, closedBuffer, reckonNumber, reckonBuffer}
+use Rattle.reckoner.specs.Calls.{answerNumber, openCall, closeSays, closedBuffer, reckonSays, reckonBuffer}
+use Rattle.sheet.specs.Sheet.{sheetOf}
+use Rattle.printout.specs.Printout.{printout}
 use Rattle.promises.specs.CallList.{Call, giving, ledgerAfter, yearsAfter, standing}
 use Rattle.promises.specs.Reported.{Reported}
 use Rattle.promises.specs.Lists.{ListAssured}
 
--- the whole reckoning of s is an opening and calls, and closing then: the same number, and the same bytes, whatever the buffer
+-- the whole reckoning of s is an opening and calls, and closing then: they say the same and write the same bytes, whatever the buffer
 pub record SameInPieces (s opening : List ℕ) (calls : List Call) : Type 0 where
-  pub number : (size : ℕ) → reckonNumber s size ≡ answerNumber (closeCall (ledgerAfter opening calls) size .answer)
+  pub says : (size : ℕ) → reckonSays s size ≡ closeSays (ledgerAfter opening calls) size
   pub buffers : (buffer : List ℕ) → reckonBuffer s buffer ≡ closedBuffer (ledgerAfter opening calls) buffer
 
 -- the years of a dossier, each given by its own bytes
@@ -23,7 +25,8 @@ abbrev pub yearCalls : List Year → List Call
 yearCalls years = map (λ (y : Year). giving (yearBytes y)) years
 
 -- "its bytes before the first YR opened, its first y years given, then closed": opening and years are accepted one after the other and bring its
--- records; demand 3 holds of this list, and so after each of its years; "after its last year the dossier's own balances are meant as well"
+-- records; demand 3 holds of this list, and so after each of its years; "after its last year the dossier's own balances are meant as well"; what
+-- `yearsheet` prints are its years over a report in a buffer for 20 of them, of which `own` says every figure
 pub record DossierAssured (s : List ℕ) (d : Dossier) : Type 0 where
   pub pieces : s ≡ openingBytes (d .opening) ++ (joined (map yearBytes (d .years)) ++ bytes 2 EN)
   pub opened : answerNumber (openCall (openingBytes (d .opening)) .answer) ≡ 0
@@ -32,6 +35,7 @@ pub record DossierAssured (s : List ℕ) (d : Dossier) : Type 0 where
   pub list : ListAssured (openingBytes (d .opening)) (yearCalls (d .years))
   pub same : SameInPieces s (openingBytes (d .opening)) (yearCalls (d .years))
   pub own : (buffer : List ℕ) → 64 * length (d .years) + 32 ≤ length buffer → Reported (settled (d .opening)) (d .years) (reckonBuffer s buffer)
+  pub printed : printout s ≡ sheetOf (d .opening .head .firstYear) (length (d .years)) (reckonBuffer s (replicate 1312 0))
 
 -- what the number 0 says of the bytes and the size of the buffer that the whole reckoning was lent
 pub record CallAssured (s : List ℕ) (size : ℕ) : Type 0 where

@@ -1,11 +1,11 @@
 -- Document 01, "Checked examples": the marked ones as one table, each beside what the document states, from the definitions that the contracts cite.
 -- Assumes nothing.
-use Prim.Native.Nat.{ℕ}
+use Prim.Native.Nat.{ℕ, _+_, _*_}
 use mathlib.Core.Option.{none}
-use mathlib.Core.List.{List, [], _∷_, _++_}
+use mathlib.Core.List.{List, [], _∷_, _++_, map}
 use lib.IntN.{ℤ, pos, negsuc}
-use lib.ListN.{replicate}
-use Rattle.classes.specs.Classes.{TP, NF, carbonStocks, emissionFactor}
+use lib.ListN.{drop, set, replicate}
+use Rattle.classes.specs.Classes.{E, SE, MR, TP, NF, carbonStocks, emissionFactor}
 use Rattle.classes.specs.Matrix.{optionOneMatrix}
 use Rattle.classes.specs.Calendar.{daysInYear}
 use Rattle.projection.specs.declared.Region.{Region}
@@ -16,70 +16,99 @@ use Rattle.figures.specs.Figures.{creditedOf}
 use Rattle.wire.specs.Signed.{figureAt}
 use Rattle.dossier.specs.Records.{units, Dossier, dossierBytes}
 use Rattle.reckoner.specs.Calls.{reckonBuffer}
+use Rattle.sheet.specs.Ascii.{ascii}
+use Rattle.printout.specs.Printout.{printout}
 
-unfoldable pub onlyE : ℕ → List ℕ
-onlyE area = area ∷ replicate 11 0
+-- areas of one class only
+abbrev only : (class area : ℕ) → List ℕ
+only class area = set (replicate 12 0) class area
+
+-- a table of conversions with that from class i to class j
+abbrev converting : (i j area : ℕ) → List ℕ → List ℕ
+converting i j area table = set table (12 * i + j) area
 
 -- "Case A: Option 1, 2020, n 1; PA only E 100,000,000; DA zero; d 366; CP E to E 99,000,000, E to NF 1,000,000; CD zero; FU diesel 100,000"
 unfoldable pub caseA : Dossier
 caseA = record {
-  opening = record { head = record { option = 1; firstYear = 2020; years = 1 }; projectAreas = onlyE 100000000; beltAreas = replicate 12 0; matrix = none };
+  opening = record {
+    head = record { option = 1; firstYear = 2020; years = 1 };
+    projectAreas = only E 100_000_000;
+    beltAreas = replicate 12 0;
+    matrix = none;
+  };
   years = record {
     year = 2020;
     operatingDays = 366;
-    conversions = (99000000 ∷ replicate 10 0) ++ (1000000 ∷ replicate 132 0);
+    conversions = converting E E 99_000_000 (converting E NF 1_000_000 (replicate 144 0));
     beltConversions = replicate 144 0;
-    activities = Fuel 1 100000 ∷ [];
+    activities = Fuel 1 100_000 ∷ [];
   } ∷ [];
 }
 
--- the whole reckoning of its bytes, with a buffer of 96 bytes
+-- the whole reckoning of its bytes, with a buffer of 255 throughout and four bytes longer than the report: a zero that is not written shows
 unfoldable pub bufferA : List ℕ
-bufferA = reckonBuffer (dossierBytes caseA) (replicate 96 0)
+bufferA = reckonBuffer (dossierBytes caseA) (replicate 100 255)
+
+-- its sheet, as the document has it
+abbrev sheetA : List ℕ
+sheetA =
+    ascii "year reference project activity belt belt-reference displaced reduction credited\n"
+    ++ (ascii "2020 833569000 334766667 318630 0 0 0 498483703 398786962\n"
+    ++ ascii "total 398786962 tonnes 398 balance 0 0\n")
 
 -- E 3 units, Option 1, one year
 unfoldable pub threeUnits : Region
-threeUnits = projectedYear (emissionFactor carbonStocks) optionOneMatrix (openedRegion (units (onlyE 3))) .region
+threeUnits = projectedYear (emissionFactor carbonStocks) optionOneMatrix (openedRegion (units (only E 3))) .region
 
--- ---- the table: what the definitions give, and what document 01 states
+-- ---- the table: what the definitions give, and what document 01 states, each as a list of whole numbers
 pub record Example : Type 0 where
-  pub given : ℤ
-  pub stated : ℤ
+  pub given : List ℤ
+  pub stated : List ℤ
 
-abbrev example : ℤ → ℤ → Example
-example given stated = record { given = given; stated = stated }
+abbrev figure : (given stated : ℤ) → Example
+figure given stated = record { given = given ∷ []; stated = stated ∷ [] }
+
+abbrev number : (given stated : ℕ) → Example
+number given stated = figure (pos given) (pos stated)
+
+abbrev bytes : (given stated : List ℕ) → Example
+bytes given stated = record { given = map pos given; stated = map pos stated }
 
 unfoldable pub examples : List Example
 examples =
     -- A: reference, project, activity, belt, belt reference, displaced, reduction, credited; total, tonnes, project and belt balance
-    example (figureAt bufferA 0) (pos 833569000)
-    ∷ example (figureAt bufferA 8) (pos 334766667)
-    ∷ example (figureAt bufferA 16) (pos 318630)
-    ∷ example (figureAt bufferA 24) (pos 0)
-    ∷ example (figureAt bufferA 32) (pos 0)
-    ∷ example (figureAt bufferA 40) (pos 0)
-    ∷ example (figureAt bufferA 48) (pos 498483703)
-    ∷ example (figureAt bufferA 56) (pos 398786962)
-    ∷ example (figureAt bufferA 64) (pos 398786962)
-    ∷ example (figureAt bufferA 72) (pos 398)
-    ∷ example (figureAt bufferA 80) (pos 0)
-    ∷ example (figureAt bufferA 88) (pos 0)
+    figure (figureAt bufferA 0) (pos 833_569_000)
+    ∷ figure (figureAt bufferA 8) (pos 334_766_667)
+    ∷ figure (figureAt bufferA 16) (pos 318_630)
+    ∷ figure (figureAt bufferA 24) (pos 0)
+    ∷ figure (figureAt bufferA 32) (pos 0)
+    ∷ figure (figureAt bufferA 40) (pos 0)
+    ∷ figure (figureAt bufferA 48) (pos 498_483_703)
+    ∷ figure (figureAt bufferA 56) (pos 398_786_962)
+    ∷ figure (figureAt bufferA 64) (pos 398_786_962)
+    ∷ figure (figureAt bufferA 72) (pos 398)
+    ∷ figure (figureAt bufferA 80) (pos 0)
+    ∷ figure (figureAt bufferA 88) (pos 0)
+    -- "Bytes beyond keep their content"
+    ∷ bytes (drop 96 bufferA) (255 ∷ 255 ∷ 255 ∷ 255 ∷ [])
+    -- "It prints exactly", from its bytes
+    ∷ bytes (printout (dossierBytes caseA)) sheetA
     -- factor E to SE 0; E to TP 0; MR to E 110; TP to NF 5654
-    ∷ example (pos (emissionFactor carbonStocks 0 1)) (pos 0)
-    ∷ example (pos (emissionFactor carbonStocks 0 TP)) (pos 0)
-    ∷ example (pos (emissionFactor carbonStocks 6 0)) (pos 110)
-    ∷ example (pos (emissionFactor carbonStocks TP NF)) (pos 5654)
+    ∷ number (emissionFactor carbonStocks E SE) 0
+    ∷ number (emissionFactor carbonStocks E TP) 0
+    ∷ number (emissionFactor carbonStocks MR E) 110
+    ∷ number (emissionFactor carbonStocks TP NF) 5_654
     -- days of 2000 366, of 2100 365
-    ∷ example (pos (daysInYear 2000)) (pos 366)
-    ∷ example (pos (daysInYear 2100)) (pos 365)
+    ∷ number (daysInYear 2000) 366
+    ∷ number (daysInYear 2100) 365
     -- diesel 1,000 g gives 3,187; NI 1, 1, 1,000,000, 4,600 gives 2,854,202; limestone 1 g gives 1
-    ∷ example (pos (activityGrams (Fuel 1 1000))) (pos 3187)
-    ∷ example (pos (activityGrams (Nitrogen 1 1 1000000 4600))) (pos 2854202)
-    ∷ example (pos (activityGrams (Lime 1 1))) (pos 1)
+    ∷ number (activityGrams (Fuel 1 1_000)) 3_187
+    ∷ number (activityGrams (Nitrogen 1 1 1_000_000 4_600)) 2_854_202
+    ∷ number (activityGrams (Lime 1 1)) 1
     -- reduction −1 credits −1
-    ∷ example (creditedOf (negsuc 0)) (negsuc 0)
+    ∷ figure (creditedOf (negsuc 0)) (negsuc 0)
     -- E 3 units, Option 1, one year: E 2, NF 0, balance 1
-    ∷ example (pos (area (threeUnits .areas) 0)) (pos 2)
-    ∷ example (pos (area (threeUnits .areas) NF)) (pos 0)
-    ∷ example (pos (threeUnits .balance .0)) (pos 1)
+    ∷ number (area (threeUnits .areas) E) 2
+    ∷ number (area (threeUnits .areas) NF) 0
+    ∷ number (threeUnits .balance .0) 1
     ∷ []

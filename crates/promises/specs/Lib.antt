@@ -1,6 +1,7 @@
 pub mod CallList
 pub mod Refusals
 pub mod Accepted
+pub mod Values
 pub mod Reported
 pub mod Lists
 pub mod Dossiers

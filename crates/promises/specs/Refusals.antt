@@ -6,18 +6,22 @@ use mathlib.Core.Path.{_≡_}
 use mathlib.Core.List.{List}
 use lib.ListN.{length}
 use Rattle.dossier.specs.Causes.{causes, openingCauses, yearCauses, closingCauses, ZeroOr}
+use Rattle.wire.specs.Bytes.{Bytes}
 use Rattle.reckoner.specs.declared.Ledger.{Ledger}
 use Rattle.reckoner.specs.Ledger.{emptyLedger}
-use Rattle.reckoner.specs.Calls.{answerNumber, openCall, yearCall, closeCall, closedBuffer, reckonNumber, reckonBuffer}
+use Rattle.reckoner.specs.Calls.{answerNumber, openCall, yearCall, closeCall, closeSays, closedBuffer, reckonNumber, reckonBuffer}
+use Rattle.sheet.specs.Sheet.{refusalOf}
+use Rattle.printout.specs.Printout.{printout}
 
--- of any bytes, any ledger and any buffer
+-- of any bytes, any ledger and any buffer; `yearsheet` lends a buffer for 20 years, 1,312 bytes, and prints of refused bytes the number alone
 pub record RefusalsLeave : Type 0 where
   pub opening : (piece : List ℕ) → (answerNumber (openCall piece .answer) ≡ 0 → ⊥) → openCall piece .ledger ≡ emptyLedger
   pub year : (l : Ledger) (piece : List ℕ) → (answerNumber (yearCall l piece .answer) ≡ 0 → ⊥) → yearCall l piece .ledger ≡ l
-  pub close : (l : Ledger) (buffer : List ℕ) → (answerNumber (closeCall l (length buffer) .answer) ≡ 0 → ⊥) → closedBuffer l buffer ≡ buffer
+  pub close : (l : Ledger) (buffer : List ℕ) → (closeSays l (length buffer) .number ≡ 0 → ⊥) → closedBuffer l buffer ≡ buffer
   pub closing : (l : Ledger) (size : ℕ) → closeCall l size .ledger ≡ l
   pub reckoning : (s buffer : List ℕ) → (reckonNumber s (length buffer) ≡ 0 → ⊥) → reckonBuffer s buffer ≡ buffer
   pub openingNumber : (piece : List ℕ) → ZeroOr openingCauses (answerNumber (openCall piece .answer))
   pub yearNumber : (l : Ledger) (piece : List ℕ) → ZeroOr yearCauses (answerNumber (yearCall l piece .answer))
-  pub closingNumber : (l : Ledger) (size : ℕ) → ZeroOr closingCauses (answerNumber (closeCall l size .answer))
+  pub closingNumber : (l : Ledger) (size : ℕ) → ZeroOr closingCauses (closeSays l size .number)
   pub reckoningNumber : (s : List ℕ) (size : ℕ) → ZeroOr causes (reckonNumber s size)
+  pub printing : (s : List ℕ) → Bytes s → (reckonNumber s 1312 ≡ 0 → ⊥) → printout s ≡ refusalOf (reckonNumber s 1312)

@@ -24,8 +24,8 @@ use Rattle.dossier.proofs.WellFormed.{dossier-accepted}
 use Rattle.dossier.proofs.FirstBytes.{first-bytes-settle}
 use Rattle.reckoner.specs.declared.Ledger.{Ledger}
 use Rattle.reckoner.specs.declared.Answer.{Answer}
-use Rattle.reckoner.specs.Ledger.{newLedger, openedLedger, givenYear, givenYears, ledgerOf, firstYear, dueOf}
-use Rattle.reckoner.specs.Calls.{answerNumber, closeCall, dossierCall, reckonNumber, openJudged, openCall, yearJudged, yearCall, tooShort}
+use Rattle.reckoner.specs.Ledger.{newLedger, openedLedger, givenYear, givenYears, ledgerOf, firstYear, dueOf, report}
+use Rattle.reckoner.specs.Calls.{answerNumber, closeCall, dossierCall, reckonNumber, openJudged, openCall, yearJudged, yearCall, tooShort, said, closeSays, reckonSays}
 
 -- every year given is counted
 pub given-count : (ys : List Year) (l : Ledger) → givenYears ys l .given ≡ l .given + length ys
@@ -50,13 +50,13 @@ first-is d h =
 
 -- "10 comes last": the dossier's own number counts before the buffer's
 pub number-refused : (s : List ℕ) (size n : ℕ) → dossier s ≡ refused n → reckonNumber s size ≡ n
-unfolding reckonNumber dossierCall
-number-refused s size n e = rw e
+unfolding reckonSays dossierCall
+number-refused s size n e = rw (reckonNumber, e)
 
 module _ (s : List ℕ) (size : ℕ) (d : Dossier) (rest : List ℕ) (e : dossier s ≡ accepted d rest) where
-  number-accepted : reckonNumber s size ≡ answerNumber (closeCall (ledgerOf d) size .answer)
-  unfolding reckonNumber dossierCall
-  number-accepted = rw e
+  number-accepted : reckonNumber s size ≡ closeSays (ledgerOf d) size .number
+  unfolding reckonSays dossierCall
+  number-accepted = rw (reckonNumber, e)
 
   pub number-short : size < 64 * ledgerOf d .given + 32 → reckonNumber s size ≡ bufferTooShort
   number-short h = number-accepted ∙ unfold closeCall in simp (lt-ltb _ _ h)
@@ -102,15 +102,15 @@ year-numbers l piece = go (yearPiece (dueOf l) piece) refl
     go (accepted y rest) e = inl refl
 
 -- of a closing, where its cause is allowed
-closed-number : (allowed : List ℕ) → bufferTooShort ∈ allowed → (l : Ledger) (size : ℕ) → ZeroOr allowed (answerNumber (closeCall l size .answer))
+closed-number : (allowed : List ℕ) → bufferTooShort ∈ allowed → (l : Ledger) (size : ℕ) → ZeroOr allowed (closeSays l size .number)
 unfolding closeCall
 closed-number allowed h l size = go (tooShort (l .given) size)
   where
-    go : (b : Bool) → ZeroOr allowed (answerNumber (cond b (Answer.Refused bufferTooShort) Answer.Accepted))
+    go : (b : Bool) → ZeroOr allowed (said (cond b (Answer.Refused bufferTooShort) Answer.Accepted) (report l) .number)
     go true = inr h
     go false = inl refl
 
-pub close-numbers : (l : Ledger) (size : ℕ) → ZeroOr closingCauses (answerNumber (closeCall l size .answer))
+pub close-numbers : (l : Ledger) (size : ℕ) → ZeroOr closingCauses (closeSays l size .number)
 close-numbers = closed-number closingCauses (listed bufferTooShort closingCauses tt)
 
 pub reckon-numbers : (s : List ℕ) (size : ℕ) → ZeroOr causes (reckonNumber s size)
@@ -122,5 +122,5 @@ reckon-numbers s size = go (dossier s) refl
 
 -- the first 65,536 bytes settle it, for any buffer
 pub same-number : (s : List ℕ) → Bytes s → (size : ℕ) → reckonNumber (take 65536 s) size ≡ reckonNumber s size
-unfolding reckonNumber dossierCall
-same-number s bs size = rw (first-bytes-settle s bs)
+unfolding reckonSays dossierCall
+same-number s bs size = rw (reckonNumber, first-bytes-settle s bs)

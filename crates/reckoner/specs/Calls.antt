@@ -4,6 +4,7 @@ use Prim.Native.Nat.{ℕ, _+_, _*_}
 use mathlib.Core.Bool.{Bool, cond}
 use mathlib.Core.List.{List}
 use lib.Dec.{ltb}
+use lib.IntN.{ℤ}
 use lib.ListN.{length}
 use Rattle.wire.specs.Bytes.{Bytes}
 use Rattle.wire.specs.Signed.{written}
@@ -22,9 +23,18 @@ abbrev pub answered : {A : Type 0} → Answer → (refusal : ℕ → A) → (acc
 answered Answer.Accepted refusal acceptance = acceptance
 answered (Answer.Refused n) refusal acceptance = refusal n
 
--- the number of an answer: 0 where the call is accepted. (A refusal has no values; what an acceptance brings stands in the ledger or the buffer.)
+-- "this paper's number and values" for each case: a refusal says its number and no values, an acceptance 0 and the values that it brings
+pub record Said : Type 0 where
+  pub number : ℕ
+  pub values : List ℤ
+
+abbrev pub said : Answer → (brought : List ℤ) → Said
+said Answer.Accepted brought = record { number = 0; values = brought }
+said (Answer.Refused n) brought = record { number = n; values = [] }
+
+-- the number of an opening or a year, which brings no values
 abbrev pub answerNumber : Answer → ℕ
-answerNumber answer = answered answer (λ n. n) 0
+answerNumber answer = said answer [] .number
 
 -- "A refused opening hands back an empty ledger"
 abbrev pub refusedOpening : ℕ → Step
@@ -54,6 +64,10 @@ tooShort n size = ltb size (64 * n + 32)
 unfoldable pub closeCall : Ledger → (size : ℕ) → Step
 closeCall l size = record { ledger = l; answer = cond (tooShort (l .given) size) (Answer.Refused bufferTooShort) Answer.Accepted }
 
+-- a closing brings the numbers of its report
+abbrev pub closeSays : Ledger → (size : ℕ) → Said
+closeSays l size = said (closeCall l size .answer) (report l)
+
 -- the buffer afterwards: the report and the old bytes beyond it, or as it was
 unfoldable pub closedBuffer : Ledger → List ℕ → List ℕ
 closedBuffer l buffer = cond (tooShort (l .given) (length buffer)) buffer (written (report l) buffer)
@@ -73,8 +87,11 @@ pub data HandedBack : Ledger → Type 0 where
   whole : (s : List ℕ) → Bytes s → HandedBack (dossierCall s .ledger)
 
 -- ---- the whole reckoning: the dossier's ledger closed. "10 comes last": only where the dossier is accepted
-unfoldable pub reckonNumber : List ℕ → (size : ℕ) → ℕ
-reckonNumber s size = answered (dossierCall s .answer) (λ n. n) (answerNumber (closeCall (dossierCall s .ledger) size .answer))
+unfoldable pub reckonSays : List ℕ → (size : ℕ) → Said
+reckonSays s size = answered (dossierCall s .answer) (λ n. said (Answer.Refused n) []) (closeSays (dossierCall s .ledger) size)
+
+abbrev pub reckonNumber : List ℕ → (size : ℕ) → ℕ
+reckonNumber s size = reckonSays s size .number
 
 unfoldable pub reckonBuffer : List ℕ → List ℕ → List ℕ
 reckonBuffer s buffer = answered (dossierCall s .answer) (λ n. buffer) (closedBuffer (dossierCall s .ledger) buffer)

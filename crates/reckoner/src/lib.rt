@@ -10,7 +10,7 @@ ghost use Prim.Native.Nat.{_≤_, _<_};
 ghost use lib.ListN.{length, drop};
 ghost use Rattle.reckoner.specs.Ledger.{newLedger, withAdvanced, firstYear};
 ghost use Rattle.reckoner.specs.Parts.{NewlyOpened, Closable, yearsCall};
-ghost use Rattle.reckoner.specs.Calls.{answerNumber, refusedOpening, openCall, yearCall, closeCall, closedBuffer, dossierCall, HandedBack, reckonNumber, reckonBuffer};
+ghost use Rattle.reckoner.specs.Calls.{refusedOpening, openCall, yearCall, closeCall, closeSays, closedBuffer, dossierCall, HandedBack, reckonNumber, reckonBuffer};
 
 // A ledger: the years given, what its opening settled, the state that years change, and the figures of the years given.
 pub struct Ledger {
@@ -74,7 +74,7 @@ fn with_year(mut ledger: Ledger, advanced: Advanced) -> Ledger
 // The report of a ledger, written where the buffer is long enough: 0, or 10 where it is not.
 fn write_ledger(ledger: Ledger, result: &mut [u8]) -> u8
     requires { ⌜ Closable ledger ⌝ }
-    ensures { λ r. ⌜ r ≡ answerNumber (closeCall ledger (length (now (result .entry))) .answer) ⌝ }
+    ensures { λ r. ⌜ r ≡ closeSays ledger (length (now (result .entry))) .number ⌝ }
     ensures { λ r. ⌜ now (result .exit) ≡ closedBuffer ledger (now (result .entry)) ⌝ }
 {
     let given = ledger.given;

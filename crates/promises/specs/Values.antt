@@ -1,0 +1,23 @@
+-- What a closing and the whole reckoning say, beside the bytes that they write.
+-- Assumes nothing.
+use Prim.Native.Nat.{ℕ, _+_, _*_, _<_}
+use mathlib.Core.Path.{_≡_}
+use mathlib.Core.List.{List, []}
+use lib.IntN.{pos}
+use lib.ListN.{length, getD}
+use Rattle.wire.specs.Bytes.{Bytes}
+use Rattle.wire.specs.Signed.{figureAt}
+use Rattle.reckoner.specs.declared.Ledger.{Ledger}
+use Rattle.reckoner.specs.Calls.{Said, closeSays, closedBuffer, HandedBack, dossierCall, reckonSays, reckonBuffer}
+
+-- "per year the eight figures .., then total, tonnes, project balance, belt balance": an acceptance says so many values, a refusal none, and the
+-- values said are those read back from the buffer, in their order
+pub record Told (years : ℕ) (says : Said) (buffer : List ℕ) : Type 0 where
+  pub accepted : says .number ≡ 0 → length (says .values) ≡ 8 * years + 4
+  pub refused : (says .number ≡ 0 → ⊥) → says .values ≡ []
+  pub decoded : (i : ℕ) → i < length (says .values) → figureAt buffer (8 * i) ≡ getD (says .values) i (pos 0)
+
+-- of any ledger that the calls handed back, of any bytes, and of any buffer
+pub record ValuesTold : Type 0 where
+  pub close : {l : Ledger} → HandedBack l → (buffer : List ℕ) → Told (l .given) (closeSays l (length buffer)) (closedBuffer l buffer)
+  pub reckoning : (s : List ℕ) → Bytes s → (buffer : List ℕ) → Told (dossierCall s .ledger .given) (reckonSays s (length buffer)) (reckonBuffer s buffer)
