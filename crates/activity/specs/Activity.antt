@@ -1,6 +1,6 @@
 -- Document 01, "Activity records, grams of CO2": the ranges of each record's fields, and its grams as a numerator over a positive denominator.
 -- The rounded and the unrounded reckoning share both.
--- Assumes nothing.
+-- To be believed. Assumes nothing.
 use Prim.Native.Nat.{ℕ, _+_, _-_, _*_, _≤_}
 use mathlib.Core.List.{List, [], _∷_}
 use lib.ListN.{getD}

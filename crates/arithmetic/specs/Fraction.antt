@@ -1,5 +1,5 @@
 -- A fraction: a whole number over a positive one. Two are compared by cross-multiplying. Nothing is ever reduced or rounded.
--- Assumes nothing.
+-- To be believed. Assumes nothing.
 use Prim.Native.Nat.{ℕ, zero, suc, _*_, _<_}
 use native.Mathlib.Nat.{mul-pos, zero-lt-suc}
 use lib.IntN.{ℤ, pos, _+ℤ_, _*ℤ_, negℤ}

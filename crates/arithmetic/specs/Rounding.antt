@@ -1,5 +1,5 @@
 -- Quotients rounded down and up, and the positive part. (A quotient of naturals, n / d, is rounded down.) The laws `ceilDiv-is` and `floorDiv-is` say what they are.
--- Assumes nothing.
+-- To be believed. Assumes nothing.
 use Prim.Native.Nat.{ℕ, _+_, _-_, _/_}
 use lib.IntN.{ℤ, pos, negsuc}
 

@@ -1,5 +1,5 @@
 -- Sums over the numbers below n, and lists by their entries.
--- Assumes nothing.
+-- To be believed. Assumes nothing.
 use Prim.Native.Nat.{ℕ, zero, suc, _+_}
 use mathlib.Core.List.{List, [], _∷_, _++_}
 

@@ -3,7 +3,7 @@
 use Prim.Native.Nat.{ℕ, _-_, _≤_}
 use native.Mathlib.Omega.{arith}
 use Rattle.arithmetic.proofs.NearLaws.{near-≤ᶠ, near-gap}
-use Rattle.classes.specs.Classes.{greatestStock}
+use Rattle.classes.specs.Ranges.{greatestStock}
 use Rattle.figures.specs.declared.State.{State}
 use Rattle.assurance.specs.Unrounded.{Unrounded}
 use Rattle.assurance.specs.Assurance.{RegionAssured, TotalAssured}

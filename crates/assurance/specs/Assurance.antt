@@ -1,5 +1,5 @@
 -- What demand 3 assures after n accepted years with m activity records.
--- Assumes nothing.
+-- To be believed. Assumes nothing.
 use mathlib.Core.Path.{_≡_}
 use mathlib.Core.List.{List}
 use Prim.Native.Nat.{ℕ, _+_, _*_, _≤_, _<_}

@@ -1,5 +1,5 @@
 -- Document 01, "Unrounded reckoning": fractions throughout, rounding nowhere. The ᶠ marks what is a fraction.
--- Assumes nothing.
+-- To be believed. Assumes nothing.
 use Prim.Native.Nat.{ℕ, _*_, _<_}
 use mathlib.Core.List.{List, [], _∷_}
 use lib.Dec.{lit<}

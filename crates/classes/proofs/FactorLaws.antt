@@ -10,7 +10,8 @@ use lib.ListN.{getD, List·getD-eq-default}
 use borrow.Author.Tests.{ltb-true, ltb-false}
 use Rattle.arithmetic.proofs.SumLaws.{length-listed, getD-listed}
 use Rattle.arithmetic.proofs.TableLaws.{atMost, entry-le}
-use Rattle.classes.specs.Classes.{TP, PP, carbonStocks, greatestStock, emissionFactor}
+use Rattle.classes.specs.Classes.{TP, PP, carbonStocks, emissionFactor}
+use Rattle.classes.specs.Ranges.{greatestStock}
 use Rattle.classes.specs.Matrix.{tableOf}
 
 pub factor-le : (stocks : List ℕ) (S : ℕ) → ((i : ℕ) → getD stocks i 0 ≤ S) → (i j : ℕ) → emissionFactor stocks i j ≤ S

@@ -9,15 +9,8 @@ use mir.Syntax.{w64}
 use mir.Val.{SFits}
 use borrow.Author.Needs.{sfits-of}
 use Rattle.arithmetic.proofs.IntegerLaws.{mag-plus, mag-minus}
-use Rattle.classes.specs.Ranges.{
-  greatestArea,
-  greatestCarbon,
-  greatestEmissions,
-  greatestRecord,
-  greatestActivity,
-  greatestFigure,
-  greatestTotal,
-}
+use Rattle.classes.specs.Classes.{greatestArea}
+use Rattle.classes.specs.Ranges.{greatestCarbon, greatestEmissions, greatestRecord, greatestActivity, greatestFigure, greatestTotal}
 
 -- ---- the rungs
 pub carbon-holds : greatestArea * 65535 ≤ greatestCarbon

@@ -1,5 +1,5 @@
 -- Document 01, "A year's figures": the days of a Gregorian year.
--- Assumes nothing.
+-- To be believed. Assumes nothing.
 use Prim.Native.Nat.{ℕ, _%_}
 use mathlib.Core.Bool.{cond}
 use lib.Dec.{eqb}

@@ -1,6 +1,6 @@
 -- Document 01, "Classes and factors": the twelve land use classes in this order: E, SE, P, D, B, M, MR, FF, FR, TP, PP, NF.
 -- A class is its place in the order, from 0.
--- Assumes nothing.
+-- To be believed. Assumes nothing.
 use Prim.Native.Nat.{ℕ, _-_}
 use mathlib.Core.Bool.{cond, _||_}
 use mathlib.Core.List.{List, [], _∷_}
@@ -50,10 +50,6 @@ NF = 11
 unfoldable pub carbonStocks : List ℕ
 carbonStocks = 9130 ∷ 13511 ∷ 5654 ∷ 4821 ∷ 0 ∷ 8415 ∷ 9240 ∷ 3986 ∷ 4265 ∷ 5654 ∷ 5654 ∷ 0 ∷ []
 
--- the greatest of them, that of SE
-abbrev pub greatestStock : ℕ
-greatestStock = 13511
-
 -- annual probability of deforestation by class, in millionths: document 01's yearly probability of turning into non-forest
 -- (document 001, table 4)
 unfoldable pub deforestationProbabilities : List ℕ
@@ -63,3 +59,7 @@ deforestationProbabilities = 24900 ∷ 30900 ∷ 0 ∷ 34500 ∷ 14100 ∷ 10000
 -- neither TP nor PP; otherwise 0. (A difference of naturals is 0 where it would be negative.)
 unfoldable pub emissionFactor : List ℕ → ℕ → ℕ → ℕ
 emissionFactor stocks i j = cond (eqb j TP || eqb j PP) 0 (getD stocks i 0 - getD stocks j 0)
+
+-- the greatest starting area, in area units: document 01, "Each total is at most 10^12"
+abbrev pub greatestArea : ℕ
+greatestArea = 1_000_000_000_000

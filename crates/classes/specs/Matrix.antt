@@ -1,5 +1,5 @@
 -- Document 01, "Classes and factors": tables of 144 numbers, row i to column j, row by row; Option 1's matrix.
--- Assumes nothing.
+-- To be believed. Assumes nothing.
 use mathlib.Core.Path.{_≡_}
 use Prim.Native.Nat.{ℕ, _+_, _-_, _*_, _/_, _%_, _<_}
 use mathlib.Core.Bool.{cond}

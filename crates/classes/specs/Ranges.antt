@@ -1,11 +1,11 @@
 -- The ladder of ranges: the greatest area, carbon and grams of each kind, by which every sum, difference and product of a reckoning fits 64 bits.
 -- Each rung holds what those below it make (proofs/RangeLaws); the contracts of all crates cite them. A rung may have room to spare.
--- Assumes nothing.
+-- Serves contracts of inner functions and proofs; nothing here has to be believed. Assumes nothing.
 use Prim.Native.Nat.{ℕ}
 
--- area units: document 01, "Each total is at most 10^12"
-abbrev pub greatestArea : ℕ
-greatestArea = 1_000_000_000_000
+-- hundredths of tC per ha: the greatest carbon stock, that of SE
+abbrev pub greatestStock : ℕ
+greatestStock = 13_511
 
 -- carbon units: the greatest area by a factor of 16 bits, 65,535 at most
 abbrev pub greatestCarbon : ℕ

@@ -1,5 +1,5 @@
 -- What a number says: 0 that nothing is wrong and these bytes are left, any other that it is refused.
--- Assumes nothing.
+-- Serves contracts of inner functions and proofs; nothing here has to be believed. Assumes nothing.
 use Prim.Native.Nat.{ℕ, _+_}
 use mathlib.Core.Bool.{cond}
 use mathlib.Core.List.{List}

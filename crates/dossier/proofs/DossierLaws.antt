@@ -7,28 +7,13 @@ use mathlib.Core.List.{List, [], _∷_, _++_, map, append-assoc, append-nil}
 use native.Mathlib.Omega.{arith}
 use lib.Dec.{lit<}
 use lib.ListN.{length}
-use Rattle.classes.specs.Ranges.{greatestArea}
+use Rattle.classes.specs.Classes.{greatestArea}
 use Rattle.figures.specs.Year.{Year}
 use Rattle.figures.specs.Reckoning.{afterFigures, afterYear}
 use Rattle.wire.specs.Bytes.{Bytes, bytes, joined}
 use Rattle.dossier.specs.Marks.{YR, EN}
-use Rattle.dossier.specs.Records.{
-  Opening,
-  OpeningInRange,
-  openingBytes,
-  termsOf,
-  stateOf,
-  Due,
-  settled,
-  next,
-  DueInRange,
-  YearInRange,
-  yearBytes,
-  YearsInRange,
-  Dossier,
-  DossierInRange,
-  dossierBytes,
-}
+use Rattle.dossier.specs.Records.{Opening, OpeningInRange, openingBytes, termsOf, stateOf, Due, settled, next, YearInRange, yearBytes, YearsInRange, Dossier, DossierInRange, dossierBytes}
+use Rattle.dossier.specs.Claims.{DueInRange}
 use Rattle.dossier.specs.Reader.{accepted, after, _>>=_, _>>_, give, mark, is, stands, upon, nothing}
 use Rattle.dossier.specs.JudgingRecords.{activityMark}
 use Rattle.dossier.specs.Judging.{opening, noneLeft, year, end, years, dossier, openingPiece, yearPiece}

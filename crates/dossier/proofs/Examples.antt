@@ -13,7 +13,8 @@ use Rattle.wire.specs.Bytes.{number, bytes, numbers, bytesOfEach, joined, total
 use Rattle.dossier.specs.Marks.{HD}
 use Rattle.dossier.specs.Layouts.{activityBytes}
 use Rattle.dossier.specs.Records.{matrixBytes}
-use Rattle.dossier.specs.Reader.{numberOf, _>>=_, _>>_, give, mark, present, begin, field, fields, outside, within, equal}
+use Rattle.dossier.specs.Claims.{numberOf}
+use Rattle.dossier.specs.Reader.{_>>=_, _>>_, give, mark, present, begin, field, fields, outside, within, equal}
 use Rattle.dossier.specs.JudgingRecords.{head, rows, matrix, inRange, fieldsOf, activityUnder, activity}
 
 -- HD with its three fields

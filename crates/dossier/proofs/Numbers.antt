@@ -8,10 +8,10 @@ use native.Mathlib.Omega.{arith}
 use lib.Dec.{T}
 use Rattle.wire.specs.Bytes.{Bytes}
 use Rattle.dossier.specs.Causes.{openingCauses, yearCauses, dossierCauses}
-use Rattle.dossier.specs.Records.{Due, DueInRange, WellFormed, WellFormedOpening, WellFormedYear}
-use Rattle.dossier.specs.Reader.{Judged, refused, accepted, Reader, numberOf}
+use Rattle.dossier.specs.Records.{Due, WellFormedOpening, WellFormedYear}
+use Rattle.dossier.specs.Claims.{DueInRange, WellFormed, numberOf, AcceptedExactly}
+use Rattle.dossier.specs.Reader.{Judged, refused, accepted, Reader}
 use Rattle.dossier.specs.Judging.{dossier, openingPiece, yearPiece}
-use Rattle.dossier.specs.Claims.{AcceptedExactly}
 use Rattle.dossier.proofs.CauseLaws.{allPositive, positive}
 use Rattle.dossier.proofs.Causes.{Numbered, dossier-causes, openingPiece-causes, yearPiece-causes}
 use Rattle.dossier.proofs.WellFormed.{dossier-accepted, opening-accepted, year-accepted}

@@ -11,7 +11,8 @@ use lib.ListN.{length, take, length-append}
 use Rattle.figures.specs.Year.{Year}
 use Rattle.wire.specs.Bytes.{number, bytes, joined}
 use Rattle.dossier.specs.Marks.{YR, EN}
-use Rattle.dossier.specs.Records.{Opening, OpeningInRange, openingBytes, Due, settled, next, DueInRange, YearInRange, yearBytes, YearsInRange}
+use Rattle.dossier.specs.Records.{Opening, OpeningInRange, openingBytes, Due, settled, next, YearInRange, yearBytes, YearsInRange}
+use Rattle.dossier.specs.Claims.{DueInRange}
 use Rattle.dossier.specs.Reader.{refused, accepted, Reader, _>>=_, _>>_, give, stands, endOfPiece}
 use Rattle.dossier.specs.JudgingRecords.{activityMark}
 use Rattle.dossier.specs.Judging.{opening, year, end, years, dossier, openingPiece, yearPiece}

@@ -6,7 +6,7 @@ use mathlib.Core.List.{List, append-nil}
 use native.Mathlib.Omega.{arith}
 use lib.Dec.{lit<}
 use lib.ListN.{length-append}
-use Rattle.classes.specs.Ranges.{greatestArea}
+use Rattle.classes.specs.Classes.{greatestArea}
 use Rattle.wire.specs.Bytes.{joined}
 use Rattle.dossier.specs.Records.{Head, HeadInRange, headBytes, AreasInRange, areasBytes, ConversionsInRange, conversionsBytes}
 use Rattle.dossier.specs.JudgingRecords.{head, areas, conversions}

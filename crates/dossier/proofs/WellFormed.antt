@@ -8,11 +8,11 @@ use Rattle.activity.specs.declared.Activity.{Activity}
 use Rattle.activity.specs.Activity.{ActivityInRange}
 use Rattle.figures.specs.Year.{Year}
 use Rattle.dossier.specs.Layouts.{activityBytes}
-use Rattle.dossier.specs.Records.{Opening, OpeningInRange, openingBytes, Due, DueInRange, YearInRange, yearBytes, Dossier, DossierInRange, dossierBytes}
+use Rattle.dossier.specs.Records.{Opening, OpeningInRange, openingBytes, Due, YearInRange, yearBytes, Dossier, DossierInRange, dossierBytes}
+use Rattle.dossier.specs.Claims.{DueInRange, AcceptedExactly}
 use Rattle.dossier.specs.Reader.{Reader}
 use Rattle.dossier.specs.JudgingRecords.{activityMark, activity}
 use Rattle.dossier.specs.Judging.{dossier, openingPiece, yearPiece}
-use Rattle.dossier.specs.Claims.{AcceptedExactly}
 use Rattle.dossier.proofs.ReaderLaws.{was, stands-nothing}
 use Rattle.dossier.proofs.Exact.{Exact}
 use Rattle.dossier.proofs.ExactParts.{Any}

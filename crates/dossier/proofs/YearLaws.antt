@@ -12,7 +12,8 @@ use Rattle.classes.specs.Calendar.{daysInYear}
 use Rattle.figures.specs.Year.{Year}
 use Rattle.wire.specs.Bytes.{Bytes, bytes, joined}
 use Rattle.dossier.specs.Marks.{YR, CP, CD}
-use Rattle.dossier.specs.Records.{Due, DueInRange, conversionsBytes, YearInRange, yearBytes}
+use Rattle.dossier.specs.Records.{Due, conversionsBytes, YearInRange, yearBytes}
+use Rattle.dossier.specs.Claims.{DueInRange}
 use Rattle.dossier.specs.Reader.{refused, accepted, _>>=_, _>>_, give, refuse, begin, stands}
 use Rattle.dossier.specs.JudgingRecords.{activityMark}
 use Rattle.dossier.specs.Judging.{activities, noneLeft, yearRecords, yearLeft, year}

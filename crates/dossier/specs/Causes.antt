@@ -1,6 +1,6 @@
 -- Document 01, "Causes and numbers": the number of each cause, by a name. Above each stands its row of the document's table, cause and number; of
 -- all of them the number is returned, no totals, and buffer and ledger are left as they were.
--- Assumes nothing.
+-- To be believed. Assumes nothing.
 use Prim.Native.Nat.{ℕ}
 use mathlib.Core.Path.{_≡_}
 use mathlib.Core.Logic.{_⊎_}

@@ -1,12 +1,31 @@
 -- What is claimed of the judgements; proofs/ has the theorems.
--- Assumes nothing.
-use Prim.Native.Nat.{ℕ}
+-- Serves contracts of inner functions and proofs; nothing here has to be believed. Assumes nothing.
+use Prim.Native.Nat.{ℕ, _≤_, _<_}
 use mathlib.Core.Path.{_≡_}
 use mathlib.Core.List.{List, []}
 use Rattle.wire.specs.Bytes.{Bytes}
-use Rattle.dossier.specs.Reader.{Reader, accepted}
+use Rattle.figures.specs.declared.Terms.{Terms}
+use Rattle.figures.specs.declared.State.{State}
+use Rattle.classes.specs.Classes.{greatestArea}
+use Rattle.dossier.specs.Records.{Due, Dossier, DossierInRange, dossierBytes}
+use Rattle.dossier.specs.Reader.{Reader, Judged, refused, accepted}
 
 -- accepted exactly when well formed: bytes are accepted with a value just where the value is in range and they are its bytes, to the last
 pub record AcceptedExactly {A : Type 0} (judge : Reader A) (InRange : A → Type 0) (encoded : A → List ℕ) : Type 0 where
   pub sound : (s : List ℕ) → Bytes s → (a : A) (rest : List ℕ) → judge s ≡ accepted a rest → InRange a × (s ≡ encoded a) × (rest ≡ [])
   pub complete : (a : A) → InRange a → judge (encoded a) ≡ accepted a []
+
+-- what is due can be said in a year piece: the year in 16 bits, totals of PA and DA in range
+pub record DueInRange (due : Due) : Type 0 where
+  pub year : due .state .year < 65536
+  pub start : due .terms .start .0 ≤ greatestArea
+  pub beltstart : due .terms .beltstart .0 ≤ greatestArea
+
+-- the bytes of a dossier in range
+abbrev pub WellFormed : List ℕ → Type 0
+WellFormed s = (d : Dossier) × DossierInRange d × (s ≡ dossierBytes d)
+
+-- the number of what was judged: 0 where nothing is refused
+abbrev pub numberOf : {A : Type 0} → Judged A → ℕ
+numberOf (refused n) = n
+numberOf (accepted a rest) = 0

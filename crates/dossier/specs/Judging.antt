@@ -1,6 +1,6 @@
 -- Document 01, "Causes and numbers": one judgement of any bytes as a dossier, as an opening piece, as a year piece. "Records are judged in
 -- order; the first fault counts."
--- Assumes nothing.
+-- To be believed. Assumes nothing.
 use Prim.Native.Nat.{ℕ, zero, suc, _+_, _-_, _*_}
 use mathlib.Core.Bool.{Bool, cond}
 use mathlib.Core.List.{List, [], _∷_, _++_}

@@ -1,14 +1,13 @@
 -- Document 01, "Causes and numbers": each record judged by itself: "mark, 9, bytes missing, fields" (9 is no matter of one record).
--- Assumes nothing.
+-- To be believed. Assumes nothing.
 use Prim.Native.Nat.{ℕ, zero, suc}
 use mathlib.Core.Bool.{Bool, true, false, cond}
 use mathlib.Core.Option.{Option, none, some}
 use mathlib.Core.List.{List, [], _∷_}
 use lib.Dec.{eqb}
 use Rattle.arithmetic.specs.Sum.{sum}
-use Rattle.classes.specs.Classes.{classes}
+use Rattle.classes.specs.Classes.{classes, greatestArea}
 use Rattle.classes.specs.Matrix.{entry, million}
-use Rattle.classes.specs.Ranges.{greatestArea}
 use Rattle.activity.specs.declared.Activity.{Activity}
 use Rattle.activity.specs.Activity.{Range, ranges}
 use Rattle.wire.specs.Bytes.{total}

@@ -1,6 +1,6 @@
 -- Document 01, "The dossier": each activity record as a row of one table. Its bytes, its mark and its judgement come from its row; its ranges are
 -- those of the crate activity.
--- Assumes nothing.
+-- To be believed. Assumes nothing.
 use Prim.Native.Nat.{ℕ, _/_}
 use mathlib.Core.List.{List, [], _∷_, _++_}
 use Rattle.activity.specs.declared.Activity.{Activity}

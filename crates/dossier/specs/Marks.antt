@@ -1,5 +1,5 @@
 -- Document 01, "The dossier": "Each record has a two-byte mark in ASCII".
--- Assumes nothing.
+-- To be believed. Assumes nothing.
 use Prim.Native.Nat.{ℕ}
 
 -- the two letters as one number of two bytes

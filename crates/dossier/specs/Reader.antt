@@ -1,6 +1,6 @@
 -- Document 01, "Causes and numbers": judging bytes from their start. A reader refuses them with a cause's number, or accepts a value and leaves
 -- the bytes that follow it.
--- Assumes nothing.
+-- To be believed. Assumes nothing.
 use Prim.Native.Nat.{ℕ, _*_}
 use mathlib.Core.Bool.{Bool, true, false, cond}
 use mathlib.Core.List.{List}
@@ -13,11 +13,6 @@ infixr 10 _>>=_ _>>_
 pub data Judged (A : Type 0) : Type 0 where
   refused : ℕ → Judged A
   accepted : A → List ℕ → Judged A
-
--- the number of what was judged: 0 where nothing is refused
-abbrev pub numberOf : {A : Type 0} → Judged A → ℕ
-numberOf (refused n) = n
-numberOf (accepted a rest) = 0
 
 abbrev pub Reader : Type 0 → Type 0
 Reader A = List ℕ → Judged A

@@ -1,6 +1,6 @@
 -- Document 01, "The dossier": each record's fields, their ranges, and its bytes. What YR, CP, CD and the activity records bring is a Year of the
 -- crate figures; an activity record is an Activity of the crate activity, which has its ranges; its bytes are in Layouts.
--- Assumes nothing.
+-- To be believed. Assumes nothing.
 use Prim.Native.Nat.{ℕ, _≤_, _<_}
 use mathlib.Core.Path.{_≡_}
 use mathlib.Core.Option.{Option, none, some}
@@ -8,10 +8,9 @@ use mathlib.Core.List.{List, [], _∷_, map}
 use lib.IntN.{pos}
 use lib.ListN.{length, replicate}
 use Rattle.classes.specs.declared.AreaUnits.{AreaUnits}
-use Rattle.classes.specs.Classes.{carbonStocks}
+use Rattle.classes.specs.Classes.{carbonStocks, greatestArea}
 use Rattle.classes.specs.Matrix.{RowsSum, optionOneMatrix}
 use Rattle.classes.specs.Calendar.{daysInYear}
-use Rattle.classes.specs.Ranges.{greatestArea}
 use Rattle.projection.specs.Projection.{openedRegion}
 use Rattle.activity.specs.Activity.{Within, ActivitiesInRange}
 use Rattle.figures.specs.declared.Terms.{Terms}
@@ -131,12 +130,6 @@ settled o = record { terms = termsOf o; state = stateOf o }
 unfoldable pub next : Year → Due → Due
 next y due = record { terms = due .terms; state = afterYear (due .terms) y (due .state) }
 
--- what is due can be said in a year piece: the year in 16 bits, totals of PA and DA in range
-pub record DueInRange (due : Due) : Type 0 where
-  pub year : due .state .year < 65536
-  pub start : due .terms .start .0 ≤ greatestArea
-  pub beltstart : due .terms .beltstart .0 ≤ greatestArea
-
 -- "CP and CD, 144 conversions of 64 bits each, diagonal included, whose sum is the total of PA or DA" (sum)
 pub record ConversionsInRange (sum : ℕ) (conversions : List ℕ) : Type 0 where
   pub count : length conversions ≡ 144
@@ -178,11 +171,7 @@ pub record DossierInRange (d : Dossier) : Type 0 where
 unfoldable pub dossierBytes : Dossier → List ℕ
 dossierBytes d = joined (openingBytes (d .opening) ∷ joined (map yearBytes (d .years)) ∷ bytes 2 EN ∷ [])
 
--- well formed: the bytes of records in range, and nothing else; so too an opening piece, and a year piece for what is settled
-abbrev pub WellFormed : List ℕ → Type 0
-WellFormed s = (d : Dossier) × DossierInRange d × (s ≡ dossierBytes d)
-
--- with n years
+-- well formed, with n years: the bytes of records in range, and nothing else; so too an opening piece, and a year piece for what is settled
 abbrev pub WellFormedYears : ℕ → List ℕ → Type 0
 WellFormedYears n s = (d : Dossier) × DossierInRange d × (s ≡ dossierBytes d) × (length (d .years) ≡ n)
 

@@ -14,10 +14,10 @@ use Rattle.arithmetic.specs.Rounding.{floorDiv, positivePart}
 use Rattle.arithmetic.proofs.SumLaws.{sum-rows, sum2-le, sum2-mul}
 use Rattle.arithmetic.proofs.RoundingLaws.{ceilDiv-le}
 use Rattle.arithmetic.proofs.IntegerLaws.{mag-minus}
-use Rattle.classes.specs.Classes.{classes}
+use Rattle.classes.specs.Classes.{classes, greatestArea}
 use Rattle.classes.specs.Matrix.{entry}
 use Rattle.classes.specs.Calendar.{daysInYear}
-use Rattle.classes.specs.Ranges.{greatestArea, greatestEmissions, greatestActivity, greatestFigure}
+use Rattle.classes.specs.Ranges.{greatestEmissions, greatestActivity, greatestFigure}
 use Rattle.classes.proofs.CalendarLaws.{days-range}
 use Rattle.projection.specs.declared.Region.{Region}
 use Rattle.projection.specs.Projection.{areaTotal, projectedCarbon}

@@ -1,5 +1,5 @@
 -- Document 01, "A year's figures", in grams of CO2. d = operating days, D = days of that Gregorian year.
--- Assumes nothing.
+-- To be believed. Assumes nothing.
 use Prim.Native.Nat.{ℕ, _*_, _/_}
 use mathlib.Core.Bool.{cond}
 use mathlib.Core.List.{List}

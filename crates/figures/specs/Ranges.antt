@@ -1,10 +1,11 @@
 -- Ranges in which every figure of a year fits 64 signed bits, by the ladder of the crate classes.
--- Assumes nothing.
+-- Serves contracts of inner functions and proofs; nothing here has to be believed. Assumes nothing.
 use Prim.Native.Nat.{ℕ, _≤_, _<_}
 use mathlib.Core.List.{List}
 use lib.ListN.{getD}
 use Rattle.arithmetic.specs.Sum.{sum}
-use Rattle.classes.specs.Ranges.{greatestArea, greatestCarbon}
+use Rattle.classes.specs.Classes.{greatestArea}
+use Rattle.classes.specs.Ranges.{greatestCarbon}
 use Rattle.figures.specs.declared.YearCarbon.{YearCarbon}
 
 -- the carbon of a region or a table

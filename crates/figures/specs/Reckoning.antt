@@ -1,5 +1,5 @@
 -- Document 01, "Projection" and "A year's figures", over years: the reckoning that a ledger carries.
--- Assumes nothing.
+-- To be believed. Assumes nothing.
 use Prim.Native.Nat.{ℕ, _+_, _-_}
 use mathlib.Core.List.{List, [], _∷_}
 use lib.ListN.{length}

@@ -1,5 +1,5 @@
 -- What an accepted year brings (document 01, "The dossier").
--- Assumes nothing.
+-- To be believed. Assumes nothing.
 use Prim.Native.Nat.{ℕ}
 use mathlib.Core.List.{List}
 use Rattle.activity.specs.declared.Activity.{Activity}

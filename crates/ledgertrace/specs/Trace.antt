@@ -1,5 +1,5 @@
 -- What holds of the ledger between the calls of a list.
--- Assumes nothing.
+-- Serves contracts of inner functions and proofs; nothing here has to be believed. Assumes nothing.
 use mathlib.Core.Path.{_≡_}
 use Rattle.reckoner.specs.Calls.{HandedBack}
 use Rattle.ledgertrace.specs.declared.Trace.{Trace}

@@ -1,5 +1,5 @@
 -- Document 01, "Calls and sheet": "Program `yearsheet` reads a dossier on standard input".
--- Assumes nothing.
+-- To be believed. Assumes nothing.
 use Prim.Native.Nat.{ℕ}
 use mathlib.Core.List.{List}
 use lib.ListN.{replicate}

@@ -1,5 +1,5 @@
 -- Document 01, "Projection", for any list of twelve areas: the project area's and the belt's alike.
--- Assumes nothing.
+-- To be believed. Assumes nothing.
 use Prim.Native.Nat.{ℕ, _+_, _-_, _*_, _/_}
 use mathlib.Core.List.{List}
 use lib.ListN.{getD}

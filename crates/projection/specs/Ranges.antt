@@ -4,9 +4,8 @@ use Prim.Native.Nat.{ℕ, _+_, _≤_, _<_}
 use mathlib.Core.List.{List}
 use lib.ListN.{getD}
 use Rattle.arithmetic.specs.Sum.{sum}
-use Rattle.classes.specs.Classes.{classes}
+use Rattle.classes.specs.Classes.{classes, greatestArea}
 use Rattle.classes.specs.Matrix.{entry, million}
-use Rattle.classes.specs.Ranges.{greatestArea}
 use Rattle.projection.specs.declared.Region.{Region}
 use Rattle.projection.specs.Projection.{areaTotal}
 

@@ -12,7 +12,8 @@ use borrow.Author.Tests.{ltb-false, le-ltb}
 use Rattle.wire.specs.Bytes.{Bytes}
 use Rattle.figures.specs.Year.{Year}
 use Rattle.dossier.specs.Records.{Opening, WellFormedYears, WellFormedOpening, WellFormedYear}
-use Rattle.dossier.specs.Reader.{Judged, refused, accepted, numberOf}
+use Rattle.dossier.specs.Reader.{Judged, refused, accepted}
+use Rattle.dossier.specs.Claims.{numberOf}
 use Rattle.dossier.specs.Judging.{openingPiece, yearPiece}
 use Rattle.dossier.proofs.Numbers.{opening-zero, year-zero}
 use Rattle.reckoner.specs.declared.Ledger.{Ledger}

@@ -10,7 +10,8 @@ use lib.ListN.{length, getD, take, replicate, length-replicate}
 use lib.Seq.{take-all}
 use Rattle.arithmetic.specs.Sum.{sum}
 use Rattle.arithmetic.proofs.TableLaws.{atMost, entry-le}
-use Rattle.classes.specs.Classes.{greatestStock, emissionFactor}
+use Rattle.classes.specs.Ranges.{greatestStock}
+use Rattle.classes.specs.Classes.{emissionFactor}
 use Rattle.classes.specs.Matrix.{RowsSum}
 use Rattle.classes.proofs.FactorLaws.{factor-le, built-in-le}
 use Rattle.projection.specs.Projection.{areaTotal, openedRegion}

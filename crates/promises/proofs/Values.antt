@@ -12,6 +12,8 @@ use Rattle.wire.specs.Bytes.{Bytes}
 use Rattle.dossier.specs.Records.{Dossier}
 use Rattle.dossier.specs.Reader.{Judged, refused, accepted}
 use Rattle.dossier.specs.Judging.{dossier}
+use Rattle.dossier.specs.Causes.{dossierCauses}
+use Rattle.dossier.proofs.CauseLaws.{positive}
 use Rattle.dossier.proofs.Causes.{dossier-causes}
 use Rattle.reckoner.specs.declared.Ledger.{Ledger}
 use Rattle.reckoner.specs.declared.Answer.{Answer}
@@ -48,7 +50,7 @@ unfolding reckonSays reckonBuffer dossierCall
 reckoning-told s b buffer = go (dossier s) refl (whole s b)
   where
     go : (j : Judged Dossier) → dossier s ≡ j → HandedBack (dossierJudged j .ledger) → StepTold (dossierJudged j) buffer
-    go (refused n) e h = refused-told _ n buffer (λ z. omega (arith, dossier-causes s n e))
+    go (refused n) e h = refused-told _ n buffer (λ z. omega (arith, positive dossierCauses tt n (dossier-causes s n e)))
     go (accepted d rest) e h = close-told h buffer
 
 pub values-told : ValuesTold

@@ -1,5 +1,5 @@
 -- Document 01, "Calls and sheet": "The list in demand 3 holds year calls .. and closings .., in any number and order, refused ones among them."
--- Assumes nothing.
+-- To be believed. Assumes nothing.
 use Prim.Native.Nat.{ℕ}
 use mathlib.Core.Bool.{cond}
 use mathlib.Core.List.{List, [], _∷_, _++_}

@@ -1,5 +1,5 @@
 -- Document 01, "Calls and sheet": a dossier is its opening and its years, given to a ledger one after the other and closed.
--- Assumes nothing.
+-- To be believed. Assumes nothing.
 use Prim.Native.Nat.{ℕ, _+_, _*_, _≤_}
 use mathlib.Core.Path.{_≡_}
 use mathlib.Core.List.{List, _++_, map}

@@ -1,5 +1,5 @@
 -- Document 01, "Checked examples": the marked ones as one table, each beside what the document states, from the definitions that the contracts cite.
--- Assumes nothing.
+-- To be believed. Assumes nothing.
 use Prim.Native.Nat.{ℕ, _+_, _*_}
 use mathlib.Core.Option.{none}
 use mathlib.Core.List.{List, [], _∷_, _++_, map}

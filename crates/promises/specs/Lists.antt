@@ -1,5 +1,5 @@
 -- Demand 3, "a single claim about the list as a whole", of any opening piece and any list of calls after it.
--- Assumes nothing.
+-- To be believed. Assumes nothing.
 use Prim.Native.Nat.{ℕ, _+_, _*_, _≤_}
 use mathlib.Core.Path.{_≡_}
 use mathlib.Core.Logic.{_↔_}

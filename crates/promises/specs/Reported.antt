@@ -1,5 +1,5 @@
 -- Demands 2 and 3 of one closing: what the bytes that it wrote say.
--- Assumes nothing.
+-- To be believed. Assumes nothing.
 use Prim.Native.Nat.{ℕ, _+_, _*_, _<_}
 use mathlib.Core.Path.{_≡_}
 use mathlib.Core.List.{List, [], _∷_}

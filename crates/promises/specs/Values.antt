@@ -1,5 +1,5 @@
 -- What a closing and the whole reckoning say, beside the bytes that they write.
--- Assumes nothing.
+-- To be believed. Assumes nothing.
 use Prim.Native.Nat.{ℕ, _+_, _*_, _<_}
 use mathlib.Core.Path.{_≡_}
 use mathlib.Core.List.{List, []}

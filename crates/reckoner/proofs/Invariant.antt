@@ -28,23 +28,8 @@ use Rattle.figures.specs.Year.{Year}
 use Rattle.figures.specs.Reckoning.{yearFigures, afterFigures, afterYear}
 use Rattle.figures.proofs.FiguresLaws.{FiguresSmall}
 use Rattle.wire.specs.Bytes.{Bytes, total}
-use Rattle.dossier.specs.Records.{
-  Opening,
-  OpeningInRange,
-  MatrixUnder,
-  matrixInUse,
-  termsOf,
-  stateOf,
-  emptyTerms,
-  emptyState,
-  settled,
-  next,
-  DueInRange,
-  YearInRange,
-  YearsInRange,
-  Dossier,
-  DossierInRange,
-}
+use Rattle.dossier.specs.Records.{Opening, OpeningInRange, MatrixUnder, matrixInUse, termsOf, stateOf, emptyTerms, emptyState, settled, next, YearInRange, YearsInRange, Dossier, DossierInRange}
+use Rattle.dossier.specs.Claims.{DueInRange}
 use Rattle.dossier.specs.Reader.{Judged, refused, accepted}
 use Rattle.dossier.specs.Judging.{dossier, openingPiece, yearPiece}
 use Rattle.dossier.proofs.WellFormed.{dossier-accepted, opening-accepted, year-accepted}

@@ -16,7 +16,8 @@ use Rattle.figures.specs.Ranges.{SmallTable}
 use Rattle.figures.specs.Reckoning.{regionReference, tableEmissions, yearFigures}
 use Rattle.figures.proofs.CountedLaws.{small-factor, small-counted}
 use Rattle.figures.proofs.FiguresLaws.{FiguresSmall, figures-small, projected-small, calendar-days, reference-small, emissions-small, monitored-small}
-use Rattle.dossier.specs.Records.{Due, DueInRange, ConversionsInRange, YearInRange}
+use Rattle.dossier.specs.Records.{Due, ConversionsInRange, YearInRange}
+use Rattle.dossier.specs.Claims.{DueInRange}
 use Rattle.dossier.proofs.LoopLaws.{total-entries}
 
 -- by stocks of 16 bits, and a matrix whose rows sum to at most 1,000,000

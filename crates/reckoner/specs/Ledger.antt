@@ -1,5 +1,5 @@
 -- Document 01, "Calls and sheet": the ledger, what an opening and a year make of it, and what closing reports.
--- Assumes nothing.
+-- To be believed. Assumes nothing.
 use Prim.Native.Nat.{ℕ, _+_, _-_}
 use mathlib.Core.List.{List, [], _∷_}
 use lib.IntN.{ℤ}

@@ -1,5 +1,5 @@
 -- Document 01, "A year's figures": what one accepted year makes.
--- Assumes nothing.
+-- To be believed. Assumes nothing.
 use Rattle.figures.specs.declared.Terms.{Terms}
 use Rattle.figures.specs.declared.State.{State}
 use Rattle.figures.specs.Year.{Year}

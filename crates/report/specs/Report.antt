@@ -1,5 +1,5 @@
 -- Document 01, "Calls and sheet": the numbers that the buffer gets.
--- Assumes nothing.
+-- To be believed. Assumes nothing.
 use Prim.Native.Nat.{ℕ}
 use mathlib.Core.List.{List, [], _∷_, _++_}
 use lib.IntN.{ℤ, pos}

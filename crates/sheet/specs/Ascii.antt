@@ -1,5 +1,5 @@
 -- Text as bytes, one for each character. Every text of the sheet is ASCII, where a character's byte is its code.
--- Assumes nothing.
+-- To be believed. Assumes nothing.
 use Prim.Native.Nat.{ℕ}
 use Prim.Native.Char.{code}
 use Prim.Native.String.{String, [] as empty, _∷_ as _then_}

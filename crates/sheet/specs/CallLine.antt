@@ -1,5 +1,5 @@
 -- The line that the testers' programs print for a call.
--- Assumes nothing.
+-- Serves contracts of inner functions and proofs; nothing here has to be believed. Assumes nothing.
 use Prim.Native.Nat.{ℕ, _/_}
 use mathlib.Core.List.{List, _++_}
 use lib.ListN.{length}

@@ -1,5 +1,5 @@
 -- Decimal figures. In proofs/DecimalLaws `decimal-is` is the equation without the count of digits, and `value-decimal` reads them back.
--- Assumes nothing.
+-- To be believed. Assumes nothing.
 use Prim.Native.Nat.{ℕ, zero, suc, _+_, _/_, _%_}
 use Prim.Native.Char.{code}
 use mathlib.Core.Bool.{cond}

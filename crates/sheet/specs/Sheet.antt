@@ -1,5 +1,5 @@
 -- Document 01, "Calls and sheet": the lines of `yearsheet`. "Each line ends with a line feed."
--- Assumes nothing.
+-- To be believed. Assumes nothing.
 use Prim.Native.Nat.{ℕ, zero, suc, _+_, _*_}
 use mathlib.Core.List.{List, [], _++_}
 use Rattle.wire.specs.Signed.{figureAt}

@@ -1,5 +1,5 @@
 -- Text written at the start of a buffer: what the crate's writers ensure.
--- Assumes nothing.
+-- To be believed. Assumes nothing.
 use mathlib.Core.Path.{_≡_}
 use Prim.Native.Nat.{ℕ}
 use mathlib.Core.List.{List, _++_}

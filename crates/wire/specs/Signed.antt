@@ -1,5 +1,5 @@
 -- Document 01, "Calls and sheet": figures of 64 bits, big-endian, two's complement. `written-figure`, in proofs/SignedLaws, reads them back.
--- Assumes nothing.
+-- To be believed. Assumes nothing.
 use Prim.Native.Nat.{ℕ, _+_, _-_, _*_, _^_}
 use mathlib.Core.Bool.{cond}
 use mathlib.Core.List.{List, [], _∷_, _++_}

@@ -8,7 +8,8 @@ use lib.ListN.{length, take, drop, length-drop}
 use borrow.Author.Tests.{lt-ltb, le-ltb, eq-eqb, ne-eqb}
 use Rattle.wire.specs.Bytes.{number, fieldAt}
 use Rattle.dossier.specs.Marks.{YR, EN}
-use Rattle.dossier.specs.Reader.{Judged, refused, accepted, numberOf, after, _>>_, refuse, begin, mark, is, upon, nothing}
+use Rattle.dossier.specs.Reader.{Judged, refused, accepted, after, _>>_, refuse, begin, mark, is, upon, nothing}
+use Rattle.dossier.specs.Claims.{numberOf}
 use Rattle.dossier.specs.Judging.{noneLeft, end}
 use Rattle.cursor.specs.Answers.{numberSays, begunSays}
 use Rattle.cursor.proofs.AtLaws.{begun-no, begun-yes, stands-short, stands-here}

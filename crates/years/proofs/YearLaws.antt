@@ -17,7 +17,8 @@ use Rattle.classes.specs.Ranges.{greatestActivity}
 use Rattle.figures.specs.Year.{Year}
 use Rattle.wire.specs.Bytes.{fieldAt}
 use Rattle.dossier.specs.Marks.{YR, CP, CD}
-use Rattle.dossier.specs.Reader.{Judged, refused, accepted, numberOf, Reader, after, _>>=_, _>>_, give, begin, outside}
+use Rattle.dossier.specs.Reader.{Judged, refused, accepted, Reader, after, _>>=_, _>>_, give, begin, outside}
+use Rattle.dossier.specs.Claims.{numberOf}
 use Rattle.dossier.specs.JudgingRecords.{conversions}
 use Rattle.dossier.specs.Judging.{activities, noneLeft, yearRecords, yearLeft}
 use Rattle.cursor.specs.Answers.{begunSays}

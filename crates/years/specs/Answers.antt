@@ -1,5 +1,5 @@
 -- A year as the reckoning takes it, its tables by their carbon and its records by their emissions, and what the answers say.
--- Assumes nothing.
+-- Serves contracts of inner functions and proofs; nothing here has to be believed. Assumes nothing.
 use Prim.Native.Nat.{ℕ, _≤_}
 use mathlib.Core.List.{List}
 use lib.IntN.{pos}

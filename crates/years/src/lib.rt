@@ -8,7 +8,7 @@ ghost use lib.ListN.{length, drop};
 ghost use Rattle.classes.specs.Matrix.{entry};
 ghost use mathlib.Core.List.{[]};
 ghost use Rattle.projection.specs.Ranges.{SmallArea, FactorsFit};
-ghost use Rattle.dossier.specs.Reader.{numberOf};
+ghost use Rattle.dossier.specs.Claims.{numberOf};
 ghost use Rattle.dossier.specs.Judging.{noneLeft, end};
 ghost use Rattle.cursor.specs.Answers.{numberSays};
 ghost use Rattle.years.specs.Answers.{monitoredTable, tableSays, tableInside, summarizedRecords, summarizedTables, summarizedYear, yearSays, recordsInside, tablesInside, yearFits};
