@@ -8,9 +8,10 @@
 use libc::STDOUT_FILENO;
 use reckoner::Answer;
 use reckoner::Ledger;
-ghost use Prim.Native.Nat.{_<_};
+ghost use Prim.Native.Nat.{_≤_, _<_};
 ghost use mathlib.Core.Path.{_≡_};
-ghost use Rattle.ledgertrace.specs.Trace.{Traced};
+ghost use lib.ListN.{length};
+ghost use Rattle.reckoner.specs.Calls.{HandedBack};
 
 // What a call begins with.
 const OPEN: u8 = b'O';
@@ -19,87 +20,80 @@ const YEAR: u8 = b'Y';
 
 const CLOSE: u8 = b'C';
 
-// The ledger, how many years it was given, and how many more calls the list may have: none once it has ended.
+// The ledger, and how many more calls the list may have: none once it has ended.
 struct Trace {
     ledger: Ledger,
-    given: u64,
     left: u64,
 }
 
+// Prints the line of an opening or a year.
+fn print_answer(word: &[u8], answer: Answer)
+    requires { ⌜ length (now word) ≤ 100 ⌝ }
+{
+    match answer {
+        Answer::Refused(n) => {
+            console::print_call(word, n, b"");
+        }
+        Answer::Accepted => {
+            console::print_call(word, 0, b"");
+        }
+    }
+}
+
 fn trace_open(mut trace: Trace, piece: &[u8]) -> Trace
-    ensures { λ r. ⌜ Traced r × (r .left ≡ trace .left) ⌝ }
+    ensures { λ r. ⌜ HandedBack (r .ledger) × (r .left ≡ trace .left) ⌝ }
 {
     let step = Ledger::open(piece);
     let ledger = step.ledger;
     let answer = step.answer;
+    print_answer(b"open", answer);
     trace.ledger = ledger;
-    trace.given = 0;
-    match answer {
-        Answer::Refused(n) => {
-            console::print_call(b"open", n, b"");
-        }
-        Answer::Accepted => {
-            console::print_call(b"open", 0, b"");
-        }
-    }
     trace
 }
 
 fn trace_year(mut trace: Trace, piece: &[u8]) -> Trace
-    requires { ⌜ Traced trace ⌝ }
-    ensures { λ r. ⌜ Traced r × (r .left ≡ trace .left) ⌝ }
+    requires { ⌜ HandedBack (trace .ledger) ⌝ }
+    ensures { λ r. ⌜ HandedBack (r .ledger) × (r .left ≡ trace .left) ⌝ }
 {
     let before = trace.ledger;
     let step = before.year(piece);
     let ledger = step.ledger;
     let answer = step.answer;
+    print_answer(b"year", answer);
     trace.ledger = ledger;
-    match answer {
-        Answer::Refused(n) => {
-            console::print_call(b"year", n, b"");
-        }
-        Answer::Accepted => {
-            trace.given = trace.given + 1;
-            console::print_call(b"year", 0, b"");
-        }
-    }
     trace
 }
 
-// Prints a line where a buffer is no longer filled from a place on.
-fn print_changed(buffer: &[u8], from: usize) {
-    if !console::is_filled(buffer, from) {
+// Prints the line of a closing with the figures up to a place, and one more where the buffer is no longer filled from there on.
+fn print_closing(n: u8, result: &[u8], end: usize)
+    requires { ⌜ (end ≤ length (now result)) × (end ≤ 1312) ⌝ }
+{
+    console::print_call(b"close", n, &result[..end]);
+    if !console::is_filled(result, end) {
         io::write_all(STDOUT_FILENO, b"buffer changed\n");
     }
 }
 
 fn trace_close(mut trace: Trace, result: &mut [u8]) -> Trace
-    requires { ⌜ Traced trace ⌝ }
-    ensures { λ r. ⌜ Traced r × (r .left ≡ trace .left) ⌝ }
+    requires { ⌜ HandedBack (trace .ledger) ⌝ }
+    ensures { λ r. ⌜ HandedBack (r .ledger) × (r .left ≡ trace .left) ⌝ }
 {
     let before = trace.ledger;
     let step = before.close(result);
     let ledger = step.ledger;
     let answer = step.answer;
-    trace.ledger = ledger;
     match answer {
-        Answer::Refused(n) => {
-            console::print_call(b"close", n, b"");
-            print_changed(result, 0);
-        }
-        Answer::Accepted => {
-            let end = (64 * trace.given + 32) as usize;
-            console::print_call(b"close", 0, &result[..end]);
-            print_changed(result, end);
-        }
+        Answer::Refused(n) => print_closing(n, result, 0),
+        Answer::Accepted => print_closing(0, result, (64 * before.years() + 32) as usize),
     }
+    trace.ledger = ledger;
     trace
 }
 
 // The next call of the list, if it is whole.
 fn trace_call(mut trace: Trace) -> Trace
-    requires { ⌜ Traced trace × (0 < trace .left) ⌝ }
-    ensures { λ r. ⌜ Traced r × (r .left < trace .left) ⌝ }
+    requires { ⌜ HandedBack (trace .ledger) × (0 < trace .left) ⌝ }
+    ensures { λ r. ⌜ HandedBack (r .ledger) × (r .left < trace .left) ⌝ }
 {
     let mark = console::read_byte();
     let length = console::read_length();
@@ -126,7 +120,6 @@ fn main() {
     let ledger = step.ledger;
     let mut trace = Trace {
         ledger,
-        given: 0,
         left: u64::MAX,
     };
     while trace.left > 0 {

@@ -26,7 +26,7 @@ yearCalls years = map (λ (y : Year). giving (yearBytes y)) years
 
 -- "its bytes before the first YR opened, its first y years given, then closed": opening and years are accepted one after the other and bring its
 -- records; demand 3 holds of this list, and so after each of its years; "after its last year the dossier's own balances are meant as well"; what
--- `yearsheet` prints are its years over a report in a buffer for 20 of them, of which `own` says every figure
+-- `yearsheet` prints is the sheet of its years over the report in a buffer for 20, of which `own` says every figure
 pub record DossierAssured (s : List ℕ) (d : Dossier) : Type 0 where
   pub pieces : s ≡ openingBytes (d .opening) ++ (joined (map yearBytes (d .years)) ++ bytes 2 EN)
   pub opened : answerNumber (openCall (openingBytes (d .opening)) .answer) ≡ 0

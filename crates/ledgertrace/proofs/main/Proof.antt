@@ -1,14 +1,12 @@
 -- `ledgertrace::main` meets its contract: every call gets a ledger that the calls handed back, and the list ends.
 -- Assumes nothing.
-use mathlib.Core.Path.{sym}
 use borrow.Author.Needs.{needs}
-use Rattle.ledgertrace.specs.Trace.{Traced}
-use Rattle.ledgertrace.proofs.TraceLaws.{opened-none}
+use Rattle.reckoner.specs.Calls.{HandedBack}
 use Rattle.ledgertrace.proofs.main.Statement.{statement}
 use Rattle.ledgertrace.proofs.main.Tie as tie
 
 abbrev Inv-loop : tie.InvT-loop
-Inv-loop trace₀ trace = Traced trace
+Inv-loop trace₀ trace = HandedBack (trace .ledger)
 
 abbrev μ-loop : tie.MeasureT-loop
 μ-loop trace₀ trace = trace .left
@@ -20,7 +18,7 @@ open-requires : tie.Need-open-requires Inv-loop μ-loop
 open-requires c κs = search needs
 
 loop-holds : tie.Need-loop-holds Inv-loop μ-loop
-loop-holds c = record { handedBack = c .before .«open» .ensures .1; counted = sym (opened-none _ _ (c .before .«open» .ensures .0)) }
+loop-holds c = search needs
 
 trace-call-requires : tie.Need-trace-call-requires Inv-loop μ-loop
 trace-call-requires c κs = search needs
