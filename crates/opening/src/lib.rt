@@ -114,25 +114,22 @@ fn read_areas(s: &[u8], at: usize, m: u64, least: u64) -> Areas
         return no_areas(fault);
     }
     let mut areas = [AreaUnits(0); 12];
-    let mut sum: u64 = 0;
+    let mut sum = AreaUnits(0);
     let mut i: usize = 0;
     while i < 12 {
-        let x = wire::field64(s, at + 2 + 8 * i);
-        if 1000000000000 - sum < x {
+        let area = AreaUnits(wire::field64(s, at + 2 + 8 * i));
+        if 1000000000000 - sum.0 < area.0 {
             return no_areas(4);
         }
-        sum = sum + x;
-        areas[i] = AreaUnits(x);
+        sum = sum.plus(area);
+        areas[i] = area;
         i += 1;
     }
-    if sum < least {
+    if sum.0 < least {
         return no_areas(4);
     }
     Areas {
-        answer: AreasAnswer::Read {
-            sum: AreaUnits(sum),
-            next: at + 98,
-        },
+        answer: AreasAnswer::Read { sum, next: at + 98 },
         areas,
     }
 }

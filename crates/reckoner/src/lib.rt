@@ -183,7 +183,6 @@ impl Ledger {
             &counted,
         );
         let answer = stepped.answer;
-        let advanced = stepped.advanced;
         match answer {
             StepAnswer::Refused(n) => Step {
                 ledger: self,
@@ -198,7 +197,7 @@ impl Ledger {
                     };
                 }
                 Step {
-                    ledger: with_year(self, advanced),
+                    ledger: with_year(self, stepped.advanced),
                     answer: Answer::Accepted,
                 }
             }

@@ -15,7 +15,7 @@ use Rattle.opening.proofs.read_areas.Statement.{statement}
 use Rattle.opening.proofs.read_areas.Tie as tie
 
 abbrev Inv-loop : tie.InvT-loop
-Inv-loop s at m least fault areas₀ sum₀ i₀ areas sum i = (i ≤ 12) × (length areas ≡ 12) × (amounts (take i areas) ≡ numbers i 8 (drop (at + 2) s)) × (sum ≡ total (numbers i 8 (drop (at + 2) s))) × (sum ≤ 1000000000000)
+Inv-loop s at m least fault areas₀ sum₀ i₀ areas sum i = (i ≤ 12) × (length areas ≡ 12) × (amounts (take i areas) ≡ numbers i 8 (drop (at + 2) s)) × (sum .0 ≡ total (numbers i 8 (drop (at + 2) s))) × (sum .0 ≤ 1000000000000)
 
 abbrev μ-loop : tie.MeasureT-loop
 μ-loop s at m least fault areas₀ sum₀ i₀ areas sum i = 12 - i
@@ -58,15 +58,16 @@ no-areas-requires-2 c κs = search needs
 
 returns-2 : tie.Need-returns-2 Inv-loop μ-loop
 returns-2 c =
-    let n = c .before .before in
-    let l = n .before .before in
-    let b = l .before .before in
-    let a = b .before .before .args in
-    let g = next-number _ (l .loop .i) _ _ _ (n .field64 .ensures) in
-    areas-refused _ _ _ _ (c .no-areas2 .ensures) (areas-above (a .s .now) (a .at) _ _ _ (b .begun .ensures .0) (l .before .if1 .left) (suc (l .loop .i)) (omega arith) (omega arith))
+    let at-field = c .before .before .before .before in
+    let at-loop = at-field .before .before in
+    let at-begun = at-loop .before .before in
+    let a = at-begun .before .before .args in
+    let g = next-number _ (at-loop .loop .i) _ _ _ (at-field .field64 .ensures) in
+    areas-refused _ _ _ _ (c .no-areas2 .ensures)
+    (areas-above (a .s .now) (a .at) _ _ _ (at-begun .begun .ensures .0) (at-loop .before .if1 .left) (suc (at-loop .loop .i)) (omega arith) (omega arith))
 
-add-sum : tie.Need-add-sum Inv-loop μ-loop
-add-sum c = search needs
+plus-requires : tie.Need-plus-requires Inv-loop μ-loop
+plus-requires c κs = search needs
 
 mul-areas : tie.Need-mul-areas Inv-loop μ-loop
 mul-areas c = search needs
@@ -82,8 +83,9 @@ loop-less c = search needs
 
 loop-again : tie.Need-loop-again Inv-loop μ-loop
 loop-again c =
-    let l = c .before .before .before .loop in
-    let g = next-number _ (l .i) _ _ _ (c .before .field64 .ensures) in
+    let at-field = c .before .before .before .before in
+    let l = at-field .before .before .loop in
+    let g = next-number _ (l .i) _ _ _ (at-field .field64 .ensures) in
     rw add-one (
       omega arith,
       length-set (l .areas) _ _ ∙ l .inv .1,
@@ -97,23 +99,24 @@ no-areas-requires-3 c κs = search needs
 
 returns-3 : tie.Need-returns-3 Inv-loop μ-loop
 returns-3 c =
-    let l = c .before .before .before in
-    let b = l .before .before in
-    let a = b .before .before .args in
-    let k = rw (done (c .before .before)) at (l .loop .inv) in
-    areas-refused _ _ _ _ (c .no-areas3 .ensures) (areas-below (a .s .now) (a .at) _ (a .least) _ (b .begun .ensures .0) (l .before .if1 .left) (omega arith))
+    let at-loop = c .before .before .before .before in
+    let at-begun = at-loop .before .before in
+    let a = at-begun .before .before .args in
+    let k = rw (done (c .before .before .before)) at (at-loop .loop .inv) in
+    areas-refused _ _ _ _ (c .no-areas3 .ensures)
+    (areas-below (a .s .now) (a .at) _ (a .least) _ (at-begun .begun .ensures .0) (at-loop .before .if1 .left) (omega arith))
 
-add-t20 : tie.Need-add-t20 Inv-loop μ-loop
-add-t20 c = search needs
+add-t19 : tie.Need-add-t19 Inv-loop μ-loop
+add-t19 c = search needs
 
 returns-4 : tie.Need-returns-4 Inv-loop μ-loop
 returns-4 c =
-    let l = c .before .before in
-    let b = l .before .before in
-    let a = b .before .before .args in
-    let k = rw (done (c .before)) at (l .loop .inv) in
-    let e : amounts (l .loop .areas) ≡ numbers 12 8 (drop (a .at + 2) (a .s .now)) = rw (take-all 12 (l .loop .areas) (omega arith)) at (k .2) in
-    rw e (areas-read (a .s .now) (a .at) _ (a .least) _ (b .begun .ensures .0) (l .before .if1 .left) (omega arith) (omega arith), (omega arith, k .3))
+    let at-loop = c .before .before .before in
+    let at-begun = at-loop .before .before in
+    let a = at-begun .before .before .args in
+    let k = rw (done (c .before .before)) at (at-loop .loop .inv) in
+    let e : amounts (at-loop .loop .areas) ≡ numbers 12 8 (drop (a .at + 2) (a .s .now)) = rw (take-all 12 (at-loop .loop .areas) (omega arith)) at (k .2) in
+    rw e (areas-read (a .s .now) (a .at) _ (a .least) _ (at-begun .begun .ensures .0) (at-loop .before .if1 .left) (omega arith) (omega arith), (omega arith, k .3))
 
 pub read-areas-spec : {M : Type 1} → statement M
 read-areas-spec =
@@ -132,7 +135,7 @@ read-areas-spec =
     sub-if2
     no-areas-requires-2
     returns-2
-    add-sum
+    plus-requires
     mul-areas
     array-set-from-areas
     add-i
@@ -140,5 +143,5 @@ read-areas-spec =
     loop-again
     no-areas-requires-3
     returns-3
-    add-t20
+    add-t19
     returns-4)

@@ -1,7 +1,6 @@
 -- `reckoner::Ledger::year` meets its contract: the year is reckoned, the piece ends there, and the ledger takes its figures.
 -- Assumes nothing.
 use mathlib.Core.Path.{refl}
-use mathlib.Core.Path.{refl}
 use native.Mathlib.Omega.{arith}
 use borrow.Author.Needs.{needs}
 use Rattle.wire.specs.Bytes.{Bytes}
@@ -38,13 +37,13 @@ enum-known-answer-2 c = search needs
 end-of-piece-requires : tie.Need-end-of-piece-requires
 end-of-piece-requires c κs =
     let at-answer = c .before in
-    next-inside _ _ _ _ (at-answer .answer2 .given .1) (at-answer .before .before .before .step .ensures .1)
+    next-inside _ _ _ _ (at-answer .answer2 .given .1) (at-answer .before .before .step .ensures .1)
 
 returns : tie.Need-returns
 returns c =
     let at-end = c .before in
     let at-answer = at-end .before .before in
-    let at-step = at-answer .before .before .before in
+    let at-step = at-answer .before .before in
     let t = at-tables at-step in
     year-handed _ _ _ (at-start t .pre) (lent t)
     (year-fault _ _ _ (tables _ (t .fill-factors .ensures)) _ _ (at-step .step .ensures .0) _ (at-answer .answer2 .given .1) _ (at-end .end-of-piece .ensures) (c .if1 .taken))
@@ -52,14 +51,14 @@ returns c =
 with-year-requires : tie.Need-with-year-requires
 with-year-requires c κs =
     let at-answer = c .before .before .before in
-    let at-step = at-answer .before .before .before in
+    let at-step = at-answer .before .before in
     let t = at-tables at-step in
     omega (arith, handed-kept (at-start t .pre) .count, one-left (at-start t .args .self) _ _ (tables _ (t .fill-factors .ensures)) _ 0 _ (at-step .step .ensures .0) (lent t) _ (at-answer .answer2 .given .1))
 
 returns-2 : tie.Need-returns-2
 returns-2 c =
     let at-answer = c .before in
-    let at-step = at-answer .before .before .before in
+    let at-step = at-answer .before .before in
     let t = at-tables at-step in
     year-handed _ _ _ (at-start t .pre) (lent t) (year-no _ _ _ (tables _ (t .fill-factors .ensures)) _ _ (at-step .step .ensures .0) _ (at-answer .answer .given .1))
 
@@ -67,7 +66,7 @@ returns-3 : tie.Need-returns-3
 returns-3 c =
     let at-end = c .before .before in
     let at-answer = at-end .before .before in
-    let at-step = at-answer .before .before .before in
+    let at-step = at-answer .before .before in
     let t = at-tables at-step in
     year-handed _ _ _ (at-start t .pre) (lent t)
     (year-yes _ _ _ (tables _ (t .fill-factors .ensures)) _ _ (at-step .step .ensures .0) _ (at-answer .answer2 .given .1) _ (at-end .end-of-piece .ensures) (c .before .if1 .left) _ (c .with-year .ensures))
