@@ -1,128 +1,94 @@
--- The years of a dossier: where the loop stands, what one more year changes, and what each way out of the loop answers.
+-- The dossier as a ledger's call: its opening, all its years given to the newly opened ledger, and EN.
 -- Assumes nothing.
-use Prim.Native.Nat.{ℕ, zero, suc, _+_, _-_, _≤_, _<_}
+use Prim.Native.Nat.{ℕ, zero, suc}
 use mathlib.Core.Path.{_≡_, refl, _∙_, ap, sym}
 use mathlib.Core.List.{List, [], _∷_, _++_}
 use native.Mathlib.Omega.{arith}
-use lib.ListN.{length, drop}
+use lib.ListN.{drop}
 use Rattle.wire.specs.Bytes.{Bytes}
-use Rattle.wire.proofs.BytesLaws.{bytes-drop}
-use Rattle.classes.specs.Matrix.{entry}
 use Rattle.figures.specs.Year.{Year}
-use Rattle.figures.specs.Reckoning.{afterFigures, afterYear}
-use Rattle.dossier.specs.Records.{Opening, termsOf, stateOf, Due, settled, next as dueNext}
+use Rattle.dossier.specs.Records.{Opening, termsOf, stateOf, settled, next}
 use Rattle.dossier.specs.Reader.{Judged, refused, accepted, after, _>>=_, _>>_, give}
 use Rattle.dossier.specs.Judging.{opening, year, end, years, dossier}
-use Rattle.dossier.proofs.YearLaws.{year-exact}
-use Rattle.dossier.proofs.Places.{years-step}
 use Rattle.cursor.specs.Answers.{numberSays}
-use Rattle.cursor.proofs.AtLaws.{number-no, number-yes, bind-no, bind-yes}
+use Rattle.cursor.proofs.AtLaws.{number-no, number-yes, bind-yes}
 use Rattle.opening.specs.declared.OpeningAnswer.{OpeningAnswer}
 use Rattle.opening.specs.declared.Opened.{Opened}
 use Rattle.opening.specs.Answers.{openedSays, settledOpening}
-use Rattle.reckoning.specs.declared.Advanced.{Advanced}
 use Rattle.reckoning.specs.declared.StepAnswer.{StepAnswer}
-use Rattle.reckoning.specs.declared.Stepped.{Stepped}
-use Rattle.reckoning.specs.Step.{steppedYear, stepSays, stepInside}
 use Rattle.reckoning.specs.Advanced.{yearAdvanced}
 use Rattle.reckoner.specs.declared.Ledger.{Ledger}
 use Rattle.reckoner.specs.declared.Answer.{Answer}
 use Rattle.reckoner.specs.declared.Step.{Step}
-use Rattle.reckoner.specs.Ledger.{newLedger, openedLedger, dueOf, withAdvanced, givenYear, givenYears, ledgerOf}
-use Rattle.reckoner.specs.Parts.{NewlyOpened, yearsJudged, yearsCall}
+use Rattle.reckoner.specs.declared.Given.{Given}
+use Rattle.reckoner.specs.Ledger.{newLedger, openedLedger, dueOf, givenYear, givenYears, ledgerOf}
+use Rattle.reckoner.specs.Parts.{giveYears, givenSays, yearsJudged, yearsCall}
 use Rattle.reckoner.specs.Calls.{refusedOpening, dossierJudged, dossierCall, HandedBack, whole}
-use Rattle.reckoner.proofs.Invariant.{LedgerKept, due-kept, opened-kept, given-kept}
 use Rattle.reckoner.proofs.OpenLaws.{read, read-ledger}
-use Rattle.reckoner.proofs.YearLaws.{Tables, none-given, one-given, next-inside}
 
--- ---- one year more
+-- ---- years given, and the judgement of a dossier's years
 given-more : (ys : List Year) (y : Year) (l : Ledger) → givenYears (ys ++ (y ∷ [])) l ≡ givenYear y (givenYears ys l)
 unfolding givenYears
 given-more [] y l = refl
 given-more (x ∷ ys) y l = given-more ys y (givenYear x l)
 
-pub due-more : (y : Year) (l : Ledger) → dueOf (givenYear y l) ≡ dueNext y (dueOf l)
-unfolding dueOf givenYear yearAdvanced dueNext
-due-more y l = refl
+due-next : (y : Year) (l : Ledger) → dueOf (givenYear y l) ≡ next y (dueOf l)
+unfolding dueOf givenYear yearAdvanced next
+due-next y l = refl
 
-years-refused : (k : ℕ) (due : Due) (before : List Year) (s : List ℕ) (n : ℕ) → 1 ≤ k → refused n ≡ year due s → years k due before s ≡ refused n
-unfolding years _>>=_
-years-refused zero due before s n h e = absurd (omega arith)
-years-refused (suc k) due before s n h e = rw (← e)
+-- a year that the ledger refuses, the judgement refuses
+given-no : (k : ℕ) (l : Ledger) (before : List Year) (u : List ℕ) (n : ℕ) → refused n ≡ giveYears k l u → refused n ≡ years k (dueOf l) before u
+unfolding giveYears years give _>>=_
+given-no zero l before u n e = let z : _≡_ {A = ℕ} 0 1 = cc in absurd (omega arith)
+given-no (suc k) l before u n e = go (λ y v f. rw (← due-next y l) (given-no k (givenYear y l) (before ++ (y ∷ [])) v n f)) (year (dueOf l) u) e
+  where
+    go : ((y : Year) (v : List ℕ) → refused n ≡ giveYears k (givenYear y l) v → refused n ≡ years k (next y (dueOf l)) (before ++ (y ∷ [])) v) → (j : Judged Year)
+        → refused n ≡ after j (λ y. giveYears k (givenYear y l)) → refused n ≡ after j (λ y. years k (next y (dueOf l)) (before ++ (y ∷ [])))
+    go more (refused m) f = let z : n ≡ m = cc in rw z
+    go more (accepted y v) f = more y v f
 
-years-more : (k : ℕ) (due : Due) (before : List Year) (s : List ℕ) (y : Year) (u : List ℕ) → 1 ≤ k → accepted y u ≡ year due s → years k due before s ≡ years (k - 1) (dueNext y due) (before ++ (y ∷ [])) u
-years-more zero due before s y u h e = absurd (omega arith)
-years-more (suc k) due before s y u h e = let z : suc k - 1 ≡ k = omega arith in rw z (years-step k due before s (sym e))
+-- those that it takes, from u to v, join the years before, and EN is due after them
+record Taken (k : ℕ) (l : Ledger) (before : List Year) (u v : List ℕ) (m : Ledger) : Type 0 where
+  all : List Year
+  made : (opened : Ledger) → l ≡ givenYears before opened → m ≡ givenYears all opened
+  goesOn : years k (dueOf l) before u ≡ (end >> give all) v
 
--- ---- the years from `from` to `at`, given to the ledger l, make the ledger m; the judgement from `from` goes on at `at` after them
-pub record SoFar (s : List ℕ) (from : ℕ) (l : Ledger) (at : ℕ) (m : Ledger) : Type 0 where
-  pub given : List Year
-  pub made : m ≡ givenYears given l
-  pub kept : LedgerKept m
-  pub terms : m .terms ≡ l .terms
-  pub counted : m .given + m .state .left ≡ l .state .left
-  pub inside : at ≤ length s
-  pub goesOn : yearsCall l (drop from s) ≡ yearsJudged l (years (m .state .left) (dueOf m) given (drop at s))
+given-yes : (k : ℕ) (l : Ledger) (before : List Year) (u v : List ℕ) (m : Ledger) → accepted m v ≡ giveYears k l u → Taken k l before u v m
+unfolding giveYears years give _>>=_
+given-yes zero l before u v m e =
+    let z : m ≡ l = cc in
+    let w : v ≡ u = cc in
+    record { all = before; made = λ opened h. z ∙ h; goesOn = rw w }
+given-yes (suc k) l before u v m e = go (λ y w. given-yes k (givenYear y l) (before ++ (y ∷ [])) w v m) (year (dueOf l) u) refl e
+  where
+    go : ((y : Year) (w : List ℕ) → accepted m v ≡ giveYears k (givenYear y l) w → Taken k (givenYear y l) (before ++ (y ∷ [])) w v m) → (j : Judged Year)
+        → year (dueOf l) u ≡ j → accepted m v ≡ after j (λ y. giveYears k (givenYear y l)) → Taken (suc k) l before u v m
+    go more (refused n) ej f = let z : _≡_ {A = ℕ} 0 1 = cc in absurd (omega arith)
+    go more (accepted y w) ej f =
+        let t = more y w f in
+        record {
+          all = t .all;
+          made = λ opened h. t .made opened (ap (givenYear y) h ∙ sym (given-more before y opened));
+          goesOn = rw (ej, ← due-next y l) (t .goesOn);
+        }
 
-pub none-yet : (s : List ℕ) (from : ℕ) (l : Ledger) → NewlyOpened l → from ≤ length s → SoFar s from l from l
-unfolding givenYears yearsCall
-none-yet s from l o h = record {
-  given = [];
-  made = refl;
-  kept = rw (o .made) (opened-kept (o .opening) (o .inRange));
-  terms = refl;
-  counted = let z : l .given ≡ 0 = unfold openedLedger newLedger in rw (o .made) in omega arith;
-  inside = h;
-  goesOn = refl;
-}
+-- ---- a newly opened ledger given all the years from u on, and EN
+module _ (l : Ledger) (s u : List ℕ) (r : Given) (says : givenSays s r ≡ giveYears (l .state .left) l u) where
+  pub years-no : (n : ℕ) → r .answer ≡ StepAnswer.Refused n → refusedOpening n ≡ yearsCall l u
+  unfolding yearsCall
+  years-no n e = ap (yearsJudged l) (given-no (l .state .left) l [] u n (rw e at says))
 
-module _ (s : List ℕ) (from : ℕ) (l : Ledger) (at : ℕ) (m : Ledger) (f : SoFar s from l at m) where
-  -- all years are given: EN is due
-  module _ (all : l .state .left ≤ m .given) (n : ℕ) (ends : numberSays [] n ≡ end (drop at s)) where
-    left-none : yearsCall l (drop from s) ≡ yearsJudged l ((end >> give (f .given)) (drop at s))
-    unfolding years
-    left-none = let z : m .state .left ≡ 0 = omega (arith, f .counted) in f .goesOn ∙ rw z
+  module _ (at : ℕ) (e : r .answer ≡ StepAnswer.Next at) (n : ℕ) (ends : numberSays [] n ≡ end (drop at s)) where
+    taken : Taken (l .state .left) l [] u (drop at s) (r .ledger)
+    taken = given-yes (l .state .left) l [] u (drop at s) (r .ledger) (rw e at says)
 
-    pub end-fault : (n ≡ 0 → ⊥) → refusedOpening n ≡ yearsCall l (drop from s)
-    end-fault g = ap (yearsJudged l) (number-no end (drop at s) [] n ends _ g) ∙ sym left-none
+    pub years-fault : (n ≡ 0 → ⊥) → refusedOpening n ≡ yearsCall l u
+    unfolding yearsCall
+    years-fault f = ap (yearsJudged l) (number-no end (drop at s) [] n ends _ f ∙ sym (taken .goesOn))
 
-    pub ended : n ≡ 0 → record { ledger = m; answer = Answer.Accepted } ≡ yearsCall l (drop from s)
-    unfolding give
-    ended g = rw (f .made) (ap (yearsJudged l) (number-yes end (drop at s) [] n ends _ g) ∙ sym left-none)
-
-  -- one is left: a step
-  module _ (less : m .given < l .state .left) (factors counted : List ℕ) (w : Tables (l .terms) factors counted) (r : Stepped)
-      (says : stepSays s r ≡ steppedYear (entry factors) (entry counted) (l .terms .matrix) (l .terms .start .0) (l .terms .beltstart .0) (m .state) (drop at s)) where
-    tables : Tables (m .terms) factors counted
-    tables = rw (f .terms) w
-
-    in-terms : stepSays s r ≡ steppedYear (entry factors) (entry counted) (m .terms .matrix) (m .terms .start .0) (m .terms .beltstart .0) (m .state) (drop at s)
-    in-terms = rw (f .terms) says
-
-    some-left : 1 ≤ m .state .left
-    some-left = omega (arith, f .counted)
-
-    pub year-fault : (n : ℕ) → r .answer ≡ StepAnswer.Refused n → refusedOpening n ≡ yearsCall l (drop from s)
-    year-fault n e =
-        let j = years-refused (m .state .left) (dueOf m) (f .given) (drop at s) n some-left (none-given m factors counted tables s at r in-terms n e) in
-        sym (f .goesOn ∙ ap (yearsJudged l) j)
-
-    pub one-more : Bytes s → stepInside s (m .state) r → (next : ℕ) → r .answer ≡ StepAnswer.Next next → SoFar s from l next (withAdvanced m (r .advanced))
-    one-more b i next e =
-        let g = one-given m factors counted tables s at r in-terms next e in
-        go (g .value) (r .advanced) (g .made) (g .judged)
-      where
-        go : (y : Year) (a : Advanced) → a ≡ yearAdvanced (m .terms) y (m .state) → accepted y (drop next s) ≡ year (dueOf m) (drop at s) → SoFar s from l next (withAdvanced m a)
-        go y a ea j = rw ea (record {
-          given = f .given ++ (y ∷ []);
-          made = unfold givenYear in sym (given-more (f .given) y l ∙ ap (givenYear y) (sym (f .made)));
-          kept = unfold givenYear in given-kept m (f .kept) y (year-exact (dueOf m) (due-kept m (f .kept)) .only (drop at s) (bytes-drop at s b) (omega arith) y (drop next s) (sym j) .1 .0);
-          terms = f .terms;
-          counted = unfold yearAdvanced afterYear afterFigures in omega (arith, f .counted, some-left);
-          inside = next-inside s (m .state) r next e i;
-          goesOn = f .goesOn ∙ ap (yearsJudged l) (years-more (m .state .left) (dueOf m) (f .given) (drop at s) y (drop next s) some-left j)
-              ∙ unfold dueOf dueNext yearAdvanced afterYear afterFigures in refl;
-        })
+    pub years-yes : n ≡ 0 → record { ledger = r .ledger; answer = Answer.Accepted } ≡ yearsCall l u
+    unfolding yearsCall give
+    years-yes f = rw (taken .made l (unfold givenYears in refl)) (ap (yearsJudged l) (number-yes end (drop at s) [] n ends _ f ∙ sym (taken .goesOn)))
 
 -- ---- the dossier from its opening and what becomes of the rest
 module _ (s : List ℕ) (r : Opened) (says : openedSays s r ≡ settledOpening s) where
@@ -135,9 +101,9 @@ module _ (s : List ℕ) (r : Opened) (says : openedSays s r ≡ settledOpening s
       go (accepted o u) q = unfold give in let z : _≡_ {A = ℕ} 0 1 = cc in absurd (omega arith)
 
   module _ (next : ℕ) (e : r .answer ≡ OpeningAnswer.Read next) where
-    pub dossier-is : (l : Ledger) → l ≡ newLedger (r .terms) (r .state) → (given : Step) → given ≡ yearsCall l (drop next s) → given ≡ dossierCall s
+    pub dossier-is : (l : Ledger) → l ≡ newLedger (r .terms) (r .state) → (step : Step) → step ≡ yearsCall l (drop next s) → step ≡ dossierCall s
     unfolding dossierCall dossier
-    dossier-is l el given eg = eg ∙ rw (el, read-ledger s r says next e) (go o ∙ ap dossierJudged (bind-yes opening _ s o (drop next s) (read s r says next e .judged)))
+    dossier-is l el step es = es ∙ rw (el, read-ledger s r says next e) (go o ∙ ap dossierJudged (bind-yes opening _ s o (drop next s) (read s r says next e .judged)))
       where
         o : Opening
         o = read s r says next e .value

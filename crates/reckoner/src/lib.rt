@@ -3,13 +3,12 @@ use figures::Figures;
 use figures::State;
 use figures::Terms;
 use opening::OpeningAnswer;
-use reckoning::Advanced;
 use reckoning::StepAnswer;
 ghost use mathlib.Core.Path.{_≡_};
 ghost use Prim.Native.Nat.{_≤_, _<_};
 ghost use lib.ListN.{length, drop};
-ghost use Rattle.reckoner.specs.Ledger.{newLedger, withAdvanced, firstYear};
-ghost use Rattle.reckoner.specs.Parts.{NewlyOpened, Closable, yearsCall};
+ghost use Rattle.reckoner.specs.Ledger.{newLedger, firstYear};
+ghost use Rattle.reckoner.specs.Parts.{NewlyOpened, InUse, Closable, givenSays, givenInside, giveYears, yearsCall};
 ghost use Rattle.reckoner.specs.Calls.{refusedOpening, openCall, yearCall, closeCall, closeSays, closedBuffer, dossierCall, HandedBack, reckonNumber, reckonBuffer};
 
 // A ledger: the years given, what its opening settled, the state that years change, and the figures of the years given.
@@ -57,20 +56,6 @@ fn refused_opening(n: u8) -> Step
     }
 }
 
-// The ledger with a year more.
-fn with_year(mut ledger: Ledger, advanced: Advanced) -> Ledger
-    requires { ⌜ ledger .given < 20 ⌝ }
-    ensures { λ r. ⌜ r ≡ withAdvanced ledger advanced ⌝ }
-{
-    let k = ledger.given as usize;
-    let figures = advanced.figures;
-    let state = advanced.state;
-    ledger.figures[k] = figures;
-    ledger.state = state;
-    ledger.given = ledger.given + 1;
-    ledger
-}
-
 // The report of a ledger, written where the buffer is long enough: 0, or 10 where it is not.
 fn write_ledger(ledger: Ledger, result: &mut [u8]) -> u8
     requires { ⌜ Closable ledger ⌝ }
@@ -92,30 +77,46 @@ fn write_ledger(ledger: Ledger, result: &mut [u8]) -> u8
     0
 }
 
-// The years of a dossier from a place on, given to a newly opened ledger, and EN.
-fn give_years(s: &[u8], from: usize, mut ledger: Ledger) -> Step
-    requires { ⌜ (from ≤ length (now s)) × NewlyOpened ledger ⌝ }
-    ensures { λ r. ⌜ r ≡ yearsCall ledger (drop from (now (s .entry))) ⌝ }
+// A ledger after the years that it was given, and the place after them; or the number of the first that was refused.
+struct Given {
+    ledger: Ledger,
+    answer: StepAnswer,
+}
+
+// Gives a ledger the next years of the bytes from a place on, count of them, one after the other.
+fn give_years(s: &[u8], from: usize, mut ledger: Ledger, count: u64) -> Given
+    requires { ⌜ (from ≤ length (now s)) × InUse ledger ⌝ }
+    ensures { λ r. ⌜ givenSays (now (s .entry)) r ≡ giveYears count ledger (drop from (now (s .entry))) ⌝ }
+    ensures { λ r. ⌜ givenInside (now (s .entry)) r ⌝ }
 {
     let terms = ledger.terms;
     let start = terms.start;
     let beltstart = terms.beltstart;
-    let matrix = terms.matrix;
-    let stocks = terms.stocks;
     let mut factors = [0u64; 144];
     let mut counted = [0u64; 144];
-    figures::fill_factors(&mut factors, &mut counted, &stocks, terms.option);
-    let opened = ledger.state;
-    let years = opened.left;
+    figures::fill_factors(&mut factors, &mut counted, &terms.stocks, terms.option);
     let mut at = from;
-    while ledger.given < years {
+    let mut k: u64 = 0;
+    while k < count {
         let state = ledger.state;
-        let stepped = reckoning::step(s, at, state, start, beltstart, &matrix, &factors, &counted);
+        let stepped = reckoning::step(
+            s,
+            at,
+            state,
+            start,
+            beltstart,
+            &terms.matrix,
+            &factors,
+            &counted,
+        );
         let answer = stepped.answer;
         let advanced = stepped.advanced;
         match answer {
             StepAnswer::Refused(n) => {
-                return refused_opening(n);
+                return Given {
+                    ledger,
+                    answer: StepAnswer::Refused(n),
+                };
             }
             StepAnswer::Next(next) => {
                 let y = ledger.given as usize;
@@ -127,14 +128,35 @@ fn give_years(s: &[u8], from: usize, mut ledger: Ledger) -> Step
                 at = next;
             }
         }
+        k += 1;
     }
-    let fault = years::read_end(s, at);
-    if fault != 0 {
-        return refused_opening(fault);
-    }
-    Step {
+    Given {
         ledger,
-        answer: Answer::Accepted,
+        answer: StepAnswer::Next(at),
+    }
+}
+
+// A newly opened ledger given all the years of a dossier from a place on, and EN.
+fn all_years(s: &[u8], from: usize, ledger: Ledger) -> Step
+    requires { ⌜ (from ≤ length (now s)) × NewlyOpened ledger ⌝ }
+    ensures { λ r. ⌜ r ≡ yearsCall ledger (drop from (now (s .entry))) ⌝ }
+{
+    let state = ledger.state;
+    let given = give_years(s, from, ledger, state.left);
+    let answer = given.answer;
+    let ledger = given.ledger;
+    match answer {
+        StepAnswer::Refused(n) => refused_opening(n),
+        StepAnswer::Next(next) => {
+            let fault = years::read_end(s, next);
+            if fault != 0 {
+                return refused_opening(fault);
+            }
+            Step {
+                ledger,
+                answer: Answer::Accepted,
+            }
+        }
     }
 }
 
@@ -163,26 +185,9 @@ impl Ledger {
         ensures { λ r. ⌜ r ≡ yearCall self (now (piece .entry)) ⌝ }
         ensures { λ r. ⌜ HandedBack (r .ledger) ⌝ }
     {
-        let terms = self.terms;
-        let state = self.state;
-        let matrix = terms.matrix;
-        let stocks = terms.stocks;
-        let mut factors = [0u64; 144];
-        let mut counted = [0u64; 144];
-        figures::fill_factors(&mut factors, &mut counted, &stocks, terms.option);
-        let start = terms.start;
-        let beltstart = terms.beltstart;
-        let stepped = reckoning::step(
-            piece,
-            0,
-            state,
-            start,
-            beltstart,
-            &matrix,
-            &factors,
-            &counted,
-        );
-        let answer = stepped.answer;
+        let given = give_years(piece, 0, self, 1);
+        let answer = given.answer;
+        let ledger = given.ledger;
         match answer {
             StepAnswer::Refused(n) => Step {
                 ledger: self,
@@ -197,7 +202,7 @@ impl Ledger {
                     };
                 }
                 Step {
-                    ledger: with_year(self, stepped.advanced),
+                    ledger,
                     answer: Answer::Accepted,
                 }
             }
@@ -251,7 +256,7 @@ impl Ledger {
         let state = opened.state;
         match answer {
             OpeningAnswer::Refused(n) => refused_opening(n),
-            OpeningAnswer::Read(next) => give_years(dossier, next, new_ledger(terms, state)),
+            OpeningAnswer::Read(next) => all_years(dossier, next, new_ledger(terms, state)),
         }
     }
 }

@@ -1,40 +1,49 @@
--- `reckoner::give_years` meets its contract: each turn gives the ledger one more year; then EN.
+-- `reckoner::give_years` meets its contract: each turn gives the ledger one more year.
 -- Assumes nothing.
-use mathlib.Core.Path.{refl, _∙_}
-use Prim.Native.Nat.{_-_}
+use mathlib.Core.Path.{refl}
+use Prim.Native.Nat.{_-_, _<_}
+use native.Mathlib.Omega.{arith}
 use borrow.Author.Needs.{needs}
 use Rattle.wire.specs.Bytes.{Bytes}
 use Rattle.reckoner.proofs.Invariant.{state-kept}
-use Rattle.reckoner.proofs.YearLaws.{tables, tables-fit}
-use Rattle.reckoner.proofs.DossierLaws.{SoFar, none-yet, year-fault, one-more, end-fault, ended}
+use Rattle.reckoner.proofs.GivenLaws.{tables, tables-fit, SoFar, none-yet, all-given, one-refused, one-left, one-more}
 use Rattle.reckoner.proofs.give_years.Statement.{statement}
 use Rattle.reckoner.proofs.give_years.Tie as tie
 
 abbrev Inv-loop : tie.InvT-loop
-Inv-loop s from ledger₀ start beltstart matrix factors counted years at₀ ledger at = SoFar s from ledger₀ at ledger
+Inv-loop s from count ledger₀ terms start beltstart factors counted at₀ k₀ ledger at k = SoFar s from ledger₀ count at ledger k
 
 abbrev μ-loop : tie.MeasureT-loop
-μ-loop s from ledger₀ start beltstart matrix factors counted years at₀ ledger at = years - ledger .given
+μ-loop s from count ledger₀ terms start beltstart factors counted at₀ k₀ ledger at k = count - k
 
--- from the loop back to the tables of factors, and from these to the start
+-- the places: a turn of the loop, the tables of factors before it, the lent bytes and the start
+abbrev in-loop : tie.After-step Inv-loop μ-loop → tie.In-loop Inv-loop μ-loop
+in-loop c = c .before .before .before .before .before .before
+
 abbrev at-tables : tie.At-loop Inv-loop μ-loop → tie.After-fill-factors Inv-loop μ-loop
-at-tables c = c .before .before
+at-tables c = c .before
+
+abbrev at-beltstart : tie.After-fill-factors Inv-loop μ-loop → tie.After-beltstart Inv-loop μ-loop
+at-beltstart c = c .before .before .before .before .before
+
+abbrev at-slice : tie.After-fill-factors Inv-loop μ-loop → tie.After-shared-slice-known Inv-loop μ-loop
+at-slice c = at-beltstart c .before .before .before
 
 abbrev at-start : tie.After-fill-factors Inv-loop μ-loop → tie.Start Inv-loop μ-loop
-at-start c = c .before .before .before .before .before .before .before .before .before .before
+at-start c = at-slice c .before
 
 lent : (c : tie.After-fill-factors Inv-loop μ-loop) → Bytes (at-start c .args .s .now)
-lent c k = c .before .before .before .before .before .before .before .before .before .shared-slice-known .given k .fits
+lent c k = at-slice c .shared-slice-known .given k .fits
 
 fill-factors-requires : tie.Need-fill-factors-requires Inv-loop μ-loop
 fill-factors-requires c κs = (refl, refl)
 
 loop-holds : tie.Need-loop-holds Inv-loop μ-loop
-loop-holds c = let start = at-start (c .before) in none-yet _ _ _ (start .pre .1) (start .pre .0)
+loop-holds c = let (inside, used) = at-start c .pre in none-yet _ _ _ _ used inside
 
 step-requires : tie.Need-step-requires Inv-loop μ-loop
 step-requires c κs =
-    let at-loop = c .before .before .before .before .before in
+    let at-loop = c .before .before .before .before .before .before in
     let t = at-tables at-loop in
     let f = at-loop .loop .inv in
     let k = rw (f .terms) at (f .kept) in
@@ -43,29 +52,42 @@ step-requires c κs =
 enum-known-answer : tie.Need-enum-known-answer Inv-loop μ-loop
 enum-known-answer c = search needs
 
-refused-opening-requires : tie.Need-refused-opening-requires Inv-loop μ-loop
-refused-opening-requires c κs = search needs
-
 returns : tie.Need-returns Inv-loop μ-loop
 returns c =
-    let at-answer = c .before .before in
+    let at-answer = c .before in
     let at-step = at-answer .before .before .before in
-    let in-loop = at-step .before .before .before .before .before in
-    let at-loop = in-loop .before in
-    c .refused-opening .ensures
-    ∙ year-fault _ _ _ _ _ (at-loop .loop .inv) (in-loop .loop-test .taken) _ _ (tables _ (at-tables at-loop .fill-factors .ensures)) _ (at-step .step .ensures .0) _ (at-answer .answer .given .1)
+    let turn = in-loop at-step in
+    let at-loop = turn .before in
+    let w = tables _ (at-tables at-loop .fill-factors .ensures) in
+    (one-refused _ _ _ _ _ _ _ (at-loop .loop .inv) (turn .loop-test .taken) _ _ w _ (at-step .step .ensures .0) _ (at-answer .answer .given .1), tt)
 
 enum-known-answer-2 : tie.Need-enum-known-answer-2 Inv-loop μ-loop
 enum-known-answer-2 c = search needs
 
+-- there is a place for the year's figures
+left : (c : tie.After-known-told2 Inv-loop μ-loop) → let turn = in-loop (c .before .before .before .before) in turn .before .loop .ledger .given < 20
+left c =
+    let at-answer = c .before in
+    let at-step = at-answer .before .before .before in
+    let turn = in-loop at-step in
+    let at-loop = turn .before in
+    let t = at-tables at-loop in
+    one-left _ _ _ _ _ _ _ (at-loop .loop .inv) (turn .loop-test .taken) _ _ (tables _ (t .fill-factors .ensures)) _ (at-step .step .ensures .0) (lent t) _ (at-answer .answer2 .given .1)
+
 mul-figures : tie.Need-mul-figures Inv-loop μ-loop
-mul-figures c = search needs
+mul-figures c = let few = left (c .before .before) in search needs
 
 element-set-from-figures : tie.Need-element-set-from-figures Inv-loop μ-loop
-element-set-from-figures c = search needs
+element-set-from-figures c = left (c .before .before)
 
 add-ledger : tie.Need-add-ledger Inv-loop μ-loop
-add-ledger c = search needs
+add-ledger c = let few = left (c .before .before) in search needs
+
+add-k : tie.Need-add-k Inv-loop μ-loop
+add-k c =
+    let turn = in-loop (c .before .before .before .before .before .before) in
+    let most = at-start (at-tables (turn .before)) .fits .count .fits in
+    record { fits = omega (arith, turn .loop-test .taken, most) }
 
 loop-less : tie.Need-loop-less Inv-loop μ-loop
 loop-less c = search needs
@@ -74,28 +96,14 @@ loop-again : tie.Need-loop-again Inv-loop μ-loop
 loop-again c =
     let at-answer = c .before .before .before in
     let at-step = at-answer .before .before .before in
-    let in-loop = at-step .before .before .before .before .before in
-    let at-loop = in-loop .before in
+    let turn = in-loop at-step in
+    let at-loop = turn .before in
     let t = at-tables at-loop in
-    one-more _ _ _ _ _ (at-loop .loop .inv) (in-loop .loop-test .taken) _ _ (tables _ (t .fill-factors .ensures)) _ (at-step .step .ensures .0) (lent t) (at-step .step .ensures .1) _ (at-answer .answer2 .given .1)
-
-read-end-requires : tie.Need-read-end-requires Inv-loop μ-loop
-read-end-requires c κs = search needs
-
-refused-opening-requires-2 : tie.Need-refused-opening-requires-2 Inv-loop μ-loop
-refused-opening-requires-2 c κs = search needs
+    let more = one-more _ _ _ _ _ _ _ (at-loop .loop .inv) (turn .loop-test .taken) _ _ (tables _ (t .fill-factors .ensures)) _ (at-step .step .ensures .0) in
+    more (lent t) _ (at-answer .answer2 .given .1) (at-step .step .ensures .1)
 
 returns-2 : tie.Need-returns-2 Inv-loop μ-loop
-returns-2 c =
-    let at-end = c .before .before in
-    let at-loop = at-end .before .before in
-    c .refused-opening2 .ensures ∙ end-fault _ _ _ _ _ (at-loop .loop .inv) (at-end .before .loop-test .left) _ (at-end .read-end .ensures) (c .before .if1 .taken)
-
-returns-3 : tie.Need-returns-3 Inv-loop μ-loop
-returns-3 c =
-    let at-end = c .before in
-    let at-loop = at-end .before .before in
-    ended _ _ _ _ _ (at-loop .loop .inv) (at-end .before .loop-test .left) _ (at-end .read-end .ensures) (c .if1 .left)
+returns-2 c = let at-loop = c .before in (all-given _ _ _ _ _ _ _ (at-loop .loop .inv) (c .loop-test .left), at-loop .loop .inv .inside)
 
 pub give-years-spec : {M : Type 1} → statement M
 give-years-spec =
@@ -107,15 +115,12 @@ give-years-spec =
     loop-holds
     step-requires
     enum-known-answer
-    refused-opening-requires
     returns
     enum-known-answer-2
     mul-figures
     element-set-from-figures
     add-ledger
+    add-k
     loop-less
     loop-again
-    read-end-requires
-    refused-opening-requires-2
-    returns-2
-    returns-3)
+    returns-2)

@@ -22,8 +22,8 @@ enum-known-answer-2 c = search needs
 new-ledger-requires : tie.Need-new-ledger-requires
 new-ledger-requires c κs = search needs
 
-give-years-requires : tie.Need-give-years-requires
-give-years-requires c κs =
+all-years-requires : tie.Need-all-years-requires
+all-years-requires c κs =
     let at-answer = c .before .before in
     let at-opening = at-answer .before .before .before .before in
     let read = at-answer .answer2 .given .1 in
@@ -43,7 +43,7 @@ returns-2 c =
     let at-opening = at-answer .before .before .before .before in
     let opened = at-opening .read-opening in
     dossier-handed _ (λ k. at-opening .before .shared-slice-known .given k .fits) _
-    (dossier-is _ _ (opened .ensures .0) _ (at-answer .answer2 .given .1) _ (at-new .new-ledger .ensures) _ (c .give-years .ensures))
+    (dossier-is _ _ (opened .ensures .0) _ (at-answer .answer2 .given .1) _ (at-new .new-ledger .ensures) _ (c .all-years .ensures))
 
 pub of-dossier-spec : {M : Type 1} → statement M
 of-dossier-spec =
@@ -54,6 +54,6 @@ of-dossier-spec =
     refused-opening-requires
     enum-known-answer-2
     new-ledger-requires
-    give-years-requires
+    all-years-requires
     returns
     returns-2)
