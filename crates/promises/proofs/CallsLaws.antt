@@ -16,7 +16,6 @@ use Rattle.dossier.specs.Judging.{yearPiece}
 use Rattle.dossier.proofs.CauseLaws.{positive}
 use Rattle.dossier.proofs.Causes.{yearPiece-causes}
 use Rattle.dossier.proofs.WellFormed.{year-accepted}
-use Rattle.reckoning.specs.Advanced.{yearAdvanced}
 use Rattle.reckoner.specs.declared.Ledger.{Ledger}
 use Rattle.reckoner.specs.Ledger.{dueOf, givenYear, givenYears}
 use Rattle.reckoner.specs.Calls.{answerNumber, yearJudged, yearCall, closeCall, HandedBack, given}
@@ -91,7 +90,7 @@ gives-one c calls l k (nothing e f g) ih =
 gives-one c calls l k (brings y h e f g) ih =
     let i = ih (givenYear y l) (given-kept l k y h) in
     let a : acceptedYears (c ∷ calls) l ≡ y ∷ acceptedYears calls (givenYear y l) = rw (e, f) in
-    record { inRange = rw a (h, unfold givenYear yearAdvanced dueOf next in i .inRange); ledger = rw (a, f) (unfold givenYears in i .ledger) }
+    record { inRange = rw a (h, unfold givenYear dueOf next in i .inRange); ledger = rw (a, f) (unfold givenYears in i .ledger) }
 
 pub gives : (calls : List Call) (l : Ledger) → LedgerKept l → LentBytes calls → Gives calls l
 gives [] l k b = unfold acceptedYears afterCalls givenYears in record { inRange = tt; ledger = refl }

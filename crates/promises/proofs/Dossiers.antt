@@ -15,7 +15,6 @@ use Rattle.dossier.specs.Judging.{dossier, openingPiece, yearPiece}
 use Rattle.dossier.proofs.WellFormed.{dossier-accepted, opening-accepted}
 use Rattle.dossier.proofs.Pieces.{YearPieces, years-given}
 use Rattle.dossier.proofs.DossierLaws.{room-opening}
-use Rattle.reckoning.specs.Advanced.{yearAdvanced}
 use Rattle.reckoner.specs.declared.Ledger.{Ledger}
 use Rattle.reckoner.specs.declared.Answer.{Answer}
 use Rattle.reckoner.specs.Ledger.{newLedger, openedLedger, dueOf, givenYear, givenYears, ledgerOf}
@@ -45,7 +44,7 @@ each-more y ys l t i = record {
 }
 
 each : (ys : List Year) (l : Ledger) → YearPieces (dueOf l) ys → Each ys l
-unfolding givenYear yearAdvanced dueOf next
+unfolding givenYear dueOf next
 each [] l p = unfold acceptedYears standingCalls afterCalls givenYears in record { years = refl; stand = refl; ledger = refl }
 each (y ∷ ys) l p = each-more y ys l (taken (yearBytes y) l y [] (p .0)) (each ys (givenYear y l) (p .1))
 

@@ -21,7 +21,6 @@ use Rattle.dossier.specs.Layouts.{activityBytes}
 use Rattle.dossier.specs.Reader.{_>>=_, _>>_, give, mark, stands, upon, present, begin, field, fields, outside, within, equal, nothing}
 use Rattle.dossier.specs.JudgingRecords.{head, areas, matrixUnder, conversions, inRange, fieldsOf, activityMark, activityUnder, activity}
 use Rattle.dossier.specs.Judging.{opening, run, activities, yearRecords, yearLeft, year, end, years, dossier}
-use Rattle.reckoning.specs.Advanced.{yearAdvanced}
 use Rattle.report.specs.Report.{eights, reported}
 use Rattle.reckoner.specs.Ledger.{newLedger, openedLedger, dueOf, givenYear, givenYears, ledgerOf, report}
 use Rattle.reckoner.specs.Calls.{closedBuffer, dossierCall, reckonBuffer}
@@ -41,7 +40,7 @@ unfolding examples caseA bufferA threeUnits
     sum listed ceilDiv floorDiv carbonStocks deforestationProbabilities emissionFactor optionOne optionOneMatrix daysInYear
     projectedCarbon nextArea nextAreas lostArea openedRegion projectedRegion projectedYear numerator denominator activityGrams activityEmissions
     referenceLevel monitoredCarbon countedFactor stockChangeEmissions displacedEmissions reductionOf creditedOf tonnesOf figuresOf
-    regionReference tableEmissions yearFigures afterFigures afterYear yearAdvanced
+    regionReference tableEmissions yearFigures afterFigures afterYear
     -- the ledger, its report and the bytes written
     termsOf stateOf settled next newLedger openedLedger dueOf givenYear givenYears ledgerOf dossierCall
     report reported eights twosComplement figureBytes figuresBytes written closedBuffer reckonBuffer

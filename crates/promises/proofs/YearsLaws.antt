@@ -16,7 +16,6 @@ use Rattle.figures.specs.Reckoning.{yearFigures, recordCount, afterFigures, aft
 use Rattle.assurance.specs.Unrounded.{Unrounded, afterYearsᶠ}
 use Rattle.assurance.proofs.YearLaws.{Reckoned, year-reckoned}
 use Rattle.dossier.specs.Records.{next, YearsInRange}
-use Rattle.reckoning.specs.Advanced.{yearAdvanced}
 use Rattle.reckoner.specs.declared.Ledger.{Ledger}
 use Rattle.reckoner.specs.Ledger.{dueOf, givenYear, givenYears}
 use Rattle.promises.specs.Reported.{yearsFigures, periodTotal, projectedYears}
@@ -35,7 +34,7 @@ figures-stay (y ∷ ys) l i h = figures-stay ys (givenYear y l) i (omega arith) 
 
 pub own-figures : (ys : List Year) (l : Ledger) → l .given + length ys ≤ length (l .figures) → (k : ℕ) → k < length ys
     → getD (givenYears ys l .figures) (l .given + k) noFigures ≡ getD (yearsFigures (l .terms) (l .state .project) (l .state .belt) ys) k noFigures
-unfolding givenYears givenYear yearAdvanced afterYear afterFigures yearsFigures
+unfolding givenYears givenYear afterYear afterFigures yearsFigures
 own-figures [] l h k q = absurd (omega arith)
 own-figures (y ∷ ys) l h zero q =
     let e : l .given + 0 ≡ l .given = omega arith in
@@ -46,7 +45,7 @@ own-figures (y ∷ ys) l h (suc k) q =
 
 -- the total is the sum of credited
 pub given-total : (ys : List Year) (l : Ledger) → givenYears ys l .state .total .0 ≡ l .state .total .0 +ℤ periodTotal (yearsFigures (l .terms) (l .state .project) (l .state .belt) ys)
-unfolding givenYears givenYear yearAdvanced afterYear afterFigures yearsFigures periodTotal
+unfolding givenYears givenYear afterYear afterFigures yearsFigures periodTotal
 given-total [] l = sym (+ℤ-idr _)
 given-total (y ∷ ys) l = given-total ys (givenYear y l) ∙ +ℤ-assoc (l .state .total .0) (yearFigures (l .terms) y (l .state .project) (l .state .belt) .credited .0) _
 
@@ -55,12 +54,12 @@ from-nothing z x e = rw e (+ℤ-idl x)
 
 -- ---- both regions, projected year by year
 pub given-project : (ys : List Year) (l : Ledger) → givenYears ys l .state .project ≡ projectedYears (l .terms .matrix) ys (l .state .project)
-unfolding givenYears givenYear yearAdvanced afterYear afterFigures projectedYears
+unfolding givenYears givenYear afterYear afterFigures projectedYears
 given-project [] l = refl
 given-project (y ∷ ys) l = given-project ys (givenYear y l)
 
 pub given-belt : (ys : List Year) (l : Ledger) → givenYears ys l .state .belt ≡ projectedYears (l .terms .matrix) ys (l .state .belt)
-unfolding givenYears givenYear yearAdvanced afterYear afterFigures projectedYears
+unfolding givenYears givenYear afterYear afterFigures projectedYears
 given-belt [] l = refl
 given-belt (y ∷ ys) l = given-belt ys (givenYear y l)
 
@@ -68,7 +67,7 @@ given-belt (y ∷ ys) l = given-belt ys (givenYear y l)
 pub years-reckoned : (G : ℕ) (ys : List Year) (l : Ledger) → ((i j : ℕ) → emissionFactor (l .terms .stocks) i j ≤ G) → (1 ≤ l .state .left → RowsSum (l .terms .matrix)) → YearsInRange (dueOf l) ys
     → (n m start beltstart : ℕ) (u : Unrounded) → Reckoned G n m start beltstart (l .state) u
     → Reckoned G (n + length ys) (m + recordCount ys) start beltstart (givenYears ys l .state) (afterYearsᶠ (l .terms) ys u)
-unfolding givenYears givenYear yearAdvanced dueOf next afterYearsᶠ recordCount
+unfolding givenYears givenYear dueOf next afterYearsᶠ recordCount
 years-reckoned G [] l factors rows h n m start beltstart u r =
     let e : n + 0 ≡ n = omega arith in
     let f : m + 0 ≡ m = omega arith in

@@ -16,7 +16,6 @@ use Rattle.opening.specs.declared.OpeningAnswer.{OpeningAnswer}
 use Rattle.opening.specs.declared.Opened.{Opened}
 use Rattle.opening.specs.Answers.{openedSays, settledOpening}
 use Rattle.reckoning.specs.declared.StepAnswer.{StepAnswer}
-use Rattle.reckoning.specs.Advanced.{yearAdvanced}
 use Rattle.reckoner.specs.declared.Ledger.{Ledger}
 use Rattle.reckoner.specs.declared.Answer.{Answer}
 use Rattle.reckoner.specs.declared.Step.{Step}
@@ -33,7 +32,7 @@ given-more [] y l = refl
 given-more (x ∷ ys) y l = given-more ys y (givenYear x l)
 
 due-next : (y : Year) (l : Ledger) → dueOf (givenYear y l) ≡ next y (dueOf l)
-unfolding dueOf givenYear yearAdvanced next
+unfolding dueOf givenYear next
 due-next y l = refl
 
 -- a year that the ledger refuses, the judgement refuses

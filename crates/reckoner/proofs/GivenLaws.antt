@@ -6,7 +6,7 @@ use mathlib.Core.Bool.{Bool, true, false, cond}
 use mathlib.Core.List.{List}
 use native.Mathlib.Omega.{arith}
 use lib.Dec.{eqb}
-use lib.ListN.{length, drop, getD}
+use lib.ListN.{length, drop, getD, set}
 use borrow.Author.Tests.{eqb-false}
 use Rattle.wire.specs.Bytes.{Bytes}
 use Rattle.wire.proofs.BytesLaws.{bytes-drop}
@@ -26,11 +26,10 @@ use Rattle.cursor.proofs.AtLaws.{bind-no, bind-yes, Made, made-no, made-yes}
 use Rattle.reckoning.specs.declared.Advanced.{Advanced}
 use Rattle.reckoning.specs.declared.StepAnswer.{StepAnswer}
 use Rattle.reckoning.specs.declared.Stepped.{Stepped}
-use Rattle.reckoning.specs.Step.{steppedYear, stepSays, stepInside}
-use Rattle.reckoning.specs.Advanced.{yearAdvanced}
+use Rattle.reckoning.specs.Step.{yearAdvanced, steppedYear, stepSays, stepInside}
 use Rattle.reckoning.proofs.StepLaws.{step-is}
 use Rattle.reckoner.specs.declared.Ledger.{Ledger}
-use Rattle.reckoner.specs.Ledger.{dueOf, withAdvanced, givenYear}
+use Rattle.reckoner.specs.Ledger.{dueOf, givenYear}
 use Rattle.reckoner.specs.Parts.{NewlyOpened, InUse, handed, newly, giveYears}
 use Rattle.reckoner.proofs.Invariant.{LedgerKept, due-kept, opened-kept, given-kept, handed-kept}
 
@@ -59,6 +58,10 @@ left-for due s b y u e = go (eqb (due .state .left) 0) refl e
     go : (t : Bool) → eqb (due .state .left) 0 ≡ t → cond t noneLeft (yearRecords (due .state .year) (due .terms .start .0) (due .terms .beltstart .0)) s ≡ accepted y u → 1 ≤ due .state .left
     go true f g = absurd (none-left-only s b y u g)
     go false f g = omega (arith, eqb-false (due .state .left) 0 f)
+
+-- a ledger that takes what a step made of a year
+abbrev pub withAdvanced : Ledger → Advanced → Ledger
+withAdvanced l a = record { given = l .given + 1; terms = l .terms; state = a .state; figures = set (l .figures) (l .given) (a .figures) }
 
 -- ---- k of the years are given: the ledger l has become m, and giving years from `from` goes on at `at`
 pub record SoFar (s : List ℕ) (from : ℕ) (l : Ledger) (count at : ℕ) (m : Ledger) (k : ℕ) : Type 0 where
@@ -114,9 +117,9 @@ module _ (s : List ℕ) (from : ℕ) (l : Ledger) (count at : ℕ) (m : Ledger) 
         where
           go : (y : Year) (a : Advanced) → a ≡ yearAdvanced (m .terms) y (m .state) → accepted y (drop next s) ≡ year (dueOf m) (drop at s) → SoFar s from l count next (withAdvanced m a) (k + 1)
           go y a ea j = rw ea (record {
-            kept = unfold givenYear in given-kept m (f .kept) y (year-exact (dueOf m) (due-kept m (f .kept)) .only (drop at s) (bytes-drop at s b) (omega arith) y (drop next s) (sym j) .1 .0);
+            kept = unfold givenYear yearAdvanced in given-kept m (f .kept) y (year-exact (dueOf m) (due-kept m (f .kept)) .only (drop at s) (bytes-drop at s b) (omega arith) y (drop next s) (sym j) .1 .0);
             terms = f .terms;
             few = omega arith;
             inside = rw e at i;
-            goesOn = unfold givenYear in to-come ∙ sym (bind-yes (year (dueOf m)) _ (drop at s) y (drop next s) j);
+            goesOn = unfold givenYear yearAdvanced in to-come ∙ sym (bind-yes (year (dueOf m)) _ (drop at s) y (drop next s) j);
           })

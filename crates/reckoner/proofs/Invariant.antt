@@ -34,7 +34,6 @@ use Rattle.dossier.specs.Reader.{Judged, refused, accepted}
 use Rattle.dossier.specs.Judging.{dossier, openingPiece, yearPiece}
 use Rattle.dossier.proofs.WellFormed.{dossier-accepted, opening-accepted, year-accepted}
 use Rattle.reckoning.specs.Step.{SmallState}
-use Rattle.reckoning.specs.Advanced.{yearAdvanced}
 use Rattle.reckoner.specs.declared.Ledger.{Ledger}
 use Rattle.reckoner.specs.Ledger.{newLedger, emptyLedger, openedLedger, dueOf, givenYear, givenYears, ledgerOf}
 use Rattle.reckoner.specs.Parts.{Closable}
@@ -119,7 +118,7 @@ opened-kept o h = record {
 
 -- ---- a year given
 pub given-kept : (l : Ledger) → LedgerKept l → (y : Year) → YearInRange (dueOf l) y → LedgerKept (givenYear y l)
-unfolding givenYear yearAdvanced afterYear afterFigures dueOf
+unfolding givenYear afterYear afterFigures dueOf
 given-kept l k y h = record {
   count = omega (arith, k .count, h .left);
   years = omega (arith, k .years, h .left);
@@ -148,7 +147,7 @@ given-kept l k y h = record {
 pub years-kept : (l : Ledger) → LedgerKept l → (ys : List Year) → YearsInRange (dueOf l) ys → LedgerKept (givenYears ys l)
 unfolding givenYears
 years-kept l k [] h = k
-years-kept l k (y ∷ ys) h = years-kept (givenYear y l) (given-kept l k y (h .0)) ys (unfold givenYear yearAdvanced dueOf next in h .1)
+years-kept l k (y ∷ ys) h = years-kept (givenYear y l) (given-kept l k y (h .0)) ys (unfold givenYear dueOf next in h .1)
 
 -- ---- the calls
 pub open-kept : (piece : List ℕ) → Bytes piece → LedgerKept (openCall piece .ledger)

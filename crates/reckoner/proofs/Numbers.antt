@@ -13,7 +13,6 @@ use lib.ListN.{length, take}
 use Rattle.wire.specs.Bytes.{Bytes}
 use Rattle.figures.specs.Year.{Year}
 use Rattle.figures.specs.Reckoning.{afterFigures, afterYear}
-use Rattle.reckoning.specs.Advanced.{yearAdvanced}
 use Rattle.dossier.specs.Records.{stateOf, Dossier, DossierInRange, dossierBytes, Opening}
 use Rattle.dossier.specs.Causes.{bufferTooShort, causes, openingCauses, yearCauses, dossierCauses, closingCauses, _∈_, ZeroOr}
 use Rattle.dossier.specs.Reader.{Judged, refused, accepted}
@@ -40,7 +39,7 @@ given-all d h = let c = given-count (d .years) (openedLedger (d .opening)) in un
 given-year : (ys : List Year) (l : Ledger) → givenYears ys l .state .year ≡ l .state .year + length ys
 unfolding givenYears
 given-year [] l = omega arith
-given-year (y ∷ ys) l = given-year ys (givenYear y l) ∙ unfold givenYear yearAdvanced afterYear afterFigures in omega arith
+given-year (y ∷ ys) l = given-year ys (givenYear y l) ∙ unfold givenYear afterYear afterFigures in omega arith
 
 pub first-is : (d : Dossier) → DossierInRange d → firstYear (ledgerOf d) ≡ d .opening .head .firstYear
 first-is d h =

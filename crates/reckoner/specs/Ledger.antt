@@ -8,9 +8,8 @@ use Rattle.figures.specs.declared.Terms.{Terms}
 use Rattle.figures.specs.declared.State.{State}
 use Rattle.figures.specs.Figures.{noFigures}
 use Rattle.figures.specs.Year.{Year}
+use Rattle.figures.specs.Reckoning.{yearFigures, afterYear}
 use Rattle.dossier.specs.Records.{Opening, termsOf, stateOf, emptyTerms, emptyState, Due, Dossier}
-use Rattle.reckoning.specs.declared.Advanced.{Advanced}
-use Rattle.reckoning.specs.Advanced.{yearAdvanced}
 use Rattle.report.specs.Report.{reported}
 use Rattle.reckoner.specs.declared.Ledger.{Ledger}
 
@@ -30,12 +29,14 @@ openedLedger o = newLedger (termsOf o) (stateOf o)
 unfoldable pub dueOf : Ledger → Due
 dueOf l = record { terms = l .terms; state = l .state }
 
--- a year given: its figures join those of the years before
-abbrev pub withAdvanced : Ledger → Advanced → Ledger
-withAdvanced l a = record { given = l .given + 1; terms = l .terms; state = a .state; figures = set (l .figures) (l .given) (a .figures) }
-
+-- a year given: the state after it, and its figures after those of the years before
 unfoldable pub givenYear : Year → Ledger → Ledger
-givenYear y l = withAdvanced l (yearAdvanced (l .terms) y (l .state))
+givenYear y l = record {
+  given = l .given + 1;
+  terms = l .terms;
+  state = afterYear (l .terms) y (l .state);
+  figures = set (l .figures) (l .given) (yearFigures (l .terms) y (l .state .project) (l .state .belt));
+}
 
 unfoldable pub givenYears : List Year → Ledger → Ledger
 givenYears [] l = l

@@ -28,8 +28,7 @@ use Rattle.dossier.proofs.YearLaws.{year-is-due}
 use Rattle.years.specs.declared.YearAnswer.{YearAnswer}
 use Rattle.years.specs.Answers.{Summary, summary, summarizedYear, yearSays, tablesInside, yearFits}
 use Rattle.reckoning.specs.declared.Advanced.{Advanced}
-use Rattle.reckoning.specs.Step.{summaryFigures, summaryAdvanced, steppedYear}
-use Rattle.reckoning.specs.Advanced.{yearAdvanced}
+use Rattle.reckoning.specs.Step.{yearAdvanced, summaryFigures, summaryAdvanced, steppedYear}
 
 pub year-refused : (s : List ℕ) (r : YearAnswer) (n : ℕ) (j : Judged Summary) → r ≡ YearAnswer.Refused n → yearSays s r ≡ j → refused n ≡ j
 year-refused s r n j e q = rw e at q

@@ -10,10 +10,12 @@ use Rattle.classes.specs.Ranges.{greatestTotal}
 use Rattle.projection.specs.Projection.{projectedCarbon}
 use Rattle.projection.specs.Ranges.{SmallRegion}
 use Rattle.figures.specs.declared.Figures.{Figures}
+use Rattle.figures.specs.declared.Terms.{Terms}
 use Rattle.figures.specs.declared.State.{State}
 use Rattle.figures.specs.Figures.{noFigures}
 use Rattle.figures.specs.Carbon.{carbonFigures}
-use Rattle.figures.specs.Reckoning.{afterFigures}
+use Rattle.figures.specs.Year.{Year}
+use Rattle.figures.specs.Reckoning.{yearFigures, afterFigures, afterYear}
 use Rattle.dossier.specs.Reader.{Judged, refused, accepted, Reader, _>>=_, give}
 use Rattle.years.specs.Answers.{Summary, summarizedYear}
 use Rattle.reckoning.specs.declared.Advanced.{Advanced}
@@ -30,6 +32,10 @@ summaryAdvanced factor matrix m state = record {
   state = afterFigures matrix (summaryFigures factor matrix m state) state;
   figures = summaryFigures factor matrix m state;
 }
+
+-- the same from the year itself
+unfoldable pub yearAdvanced : Terms → Year → State → Advanced
+yearAdvanced t y state = record { state = afterYear t y state; figures = yearFigures t y (state .project) (state .belt) }
 
 -- the year that is due at the bytes' start, reckoned
 unfoldable pub steppedYear : (factor counted : ℕ → ℕ → ℕ) → List ℕ → (start beltstart : ℕ) → State → Reader Advanced
