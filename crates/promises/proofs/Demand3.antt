@@ -20,7 +20,7 @@ use Rattle.figures.specs.declared.Figures.{Figures}
 use Rattle.figures.specs.Figures.{noFigures}
 use Rattle.figures.specs.Year.{Year}
 use Rattle.figures.specs.Reckoning.{recordCount}
-use Rattle.assurance.specs.Unrounded.{openedᶠ, afterYearsᶠ}
+use Rattle.assurance.specs.Unrounded.{Unrounded, openedᶠ, afterYearsᶠ}
 use Rattle.assurance.proofs.Assurance.{Assured, reckoned-assured}
 use Rattle.assurance.proofs.YearLaws.{Reckoned, opened-reckoned}
 use Rattle.wire.specs.Bytes.{Bytes}
@@ -98,30 +98,37 @@ opening-due piece = go (openingPiece piece)
 
 -- ---- that ledger given years in range, and closed
 module _ (l : Ledger) (o : Opened l) (k : LedgerKept l) (ys : List Year) (inRange : YearsInRange (dueOf l) ys) where
-  count-is : givenYears ys l .given ≡ length ys
+  abbrev after : Ledger
+  after = givenYears ys l
+
+  abbrev afterᶠ : Unrounded
+  afterᶠ = afterYearsᶠ (l .terms) ys (openedᶠ (l .state))
+
+  count-is : after .given ≡ length ys
   count-is = omega (arith, given-count ys l, o .none)
 
-  kept-is : LedgerKept (givenYears ys l)
+  kept-is : LedgerKept after
   kept-is = years-kept l k ys inRange
 
-  assured : Assured (length ys) (recordCount ys) (l .terms .start .0) (l .terms .beltstart .0) (givenYears ys l .state) (afterYearsᶠ (l .terms) ys (openedᶠ (l .state)))
+  assured : Assured (length ys) (recordCount ys) (l .terms .start .0) (l .terms .beltstart .0) (after .state) afterᶠ
   assured = reckoned-assured _ _ _ _ _ _ (simp zero-add at (years-reckoned greatestStock ys l (o .factors) (o .rows) inRange 0 0 _ _ _ (o .reckoned)))
 
   module _ (buffer : List ℕ) (h : 64 * length ys + 32 ≤ length buffer) where
     abbrev closed : List ℕ
-    closed = closedBuffer (givenYears ys l) buffer
+    closed = closedBuffer after buffer
 
     -- total, tonnes and balances, at their places
-    last : (j : ℕ) → j < 4 → figureAt closed (64 * length ys + 8 * j) ≡ getD (closing (givenYears ys l .state .total .0) (givenYears ys l .state .project .balance .0) (givenYears ys l .state .belt .balance .0)) j (pos 0)
-    last j hj = rw (← count-is) (last-figure (givenYears ys l) kept-is buffer (omega (arith, count-is)) j hj)
+    last : (j : ℕ) → j < 4
+        → figureAt closed (64 * length ys + 8 * j) ≡ getD (closing (after .state .total .0) (after .state .project .balance .0) (after .state .belt .balance .0)) j (pos 0)
+    last j hj = rw (← count-is) (last-figure after kept-is buffer (omega (arith, count-is)) j hj)
 
-    total-back : figureAt closed (64 * length ys) ≡ givenYears ys l .state .total .0
+    total-back : figureAt closed (64 * length ys) ≡ after .state .total .0
     total-back = let e : 64 * length ys + 8 * 0 ≡ 64 * length ys = omega arith in ap (figureAt closed) (sym e) ∙ last 0 (omega arith)
 
-    project-reported : RegionReported (length ys) (l .terms .start .0) (figureAt closed (64 * length ys + 16)) (givenYears ys l .state .project) (afterYearsᶠ (l .terms) ys (openedᶠ (l .state)) .project)
+    project-reported : RegionReported (length ys) (l .terms .start .0) (figureAt closed (64 * length ys + 16)) (after .state .project) (afterᶠ .project)
     project-reported = record { decoded = last 2 (omega arith); assured = assured .project }
 
-    belt-reported : RegionReported (length ys) (l .terms .beltstart .0) (figureAt closed (64 * length ys + 24)) (givenYears ys l .state .belt) (afterYearsᶠ (l .terms) ys (openedᶠ (l .state)) .belt)
+    belt-reported : RegionReported (length ys) (l .terms .beltstart .0) (figureAt closed (64 * length ys + 24)) (after .state .belt) (afterᶠ .belt)
     belt-reported = record { decoded = last 3 (omega arith); assured = assured .belt }
 
     -- each figure of each year is its own
@@ -129,8 +136,8 @@ module _ (l : Ledger) (o : Opened l) (k : LedgerKept l) (ys : List Year) (inRang
         → figureAt closed (64 * i + 8 * j) ≡ getD (eight (getD (yearsFigures (l .terms) (l .state .project) (l .state .belt) ys) i noFigures)) j (pos 0)
     year-is i j hi hj =
         let e : l .given + i ≡ i = omega (arith, o .none) in
-        let own = ap (λ (m : ℕ). getD (givenYears ys l .figures) m noFigures) (sym e) ∙ own-figures ys l (omega (arith, o .none, o .room, kept-is .count, count-is)) i hi in
-        year-figure (givenYears ys l) kept-is buffer (omega (arith, count-is)) i j (omega (arith, count-is)) hj
+        let own = ap (λ (m : ℕ). getD (after .figures) m noFigures) (sym e) ∙ own-figures ys l (omega (arith, o .none, o .room, kept-is .count, count-is)) i hi in
+        year-figure after kept-is buffer (omega (arith, count-is)) i j (omega (arith, count-is)) hj
         ∙ ap (λ (f : Figures). getD (eight f) j (pos 0)) own
 
     reported : Reported (dueOf l) ys closed
@@ -168,7 +175,10 @@ module _ (opening : List ℕ) (b : Bytes opening) where
       let all : take n (standingCalls calls l) ≡ standingCalls calls l = take-all n (standingCalls calls l) (omega arith) in
       let every : take n (acceptedYears calls l) ≡ acceptedYears calls l = take-all n (acceptedYears calls l) (omega (arith, standing-count calls l k c)) in
       let s = stands calls l k c n in
-      ap (λ (cs : List Call). afterCalls cs l) (sym all) ∙ gives (take n (standingCalls calls l)) l k (s .lent) .ledger ∙ ap (λ (ys : List Year). givenYears ys l) (s .years ∙ every) ∙ sym (gives calls l k c .ledger)
+      ap (λ (cs : List Call). afterCalls cs l) (sym all)
+      ∙ gives (take n (standingCalls calls l)) l k (s .lent) .ledger
+      ∙ ap (λ (ys : List Year). givenYears ys l) (s .years ∙ every)
+      ∙ sym (gives calls l k c .ledger)
 
 -- demands 2 and 3
 pub demand3 : (opening : List ℕ) → Bytes opening → (calls : List Call) → LentBytes calls → ListAssured opening calls
