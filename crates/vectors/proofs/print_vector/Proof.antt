@@ -10,6 +10,13 @@ use Rattle.console.proofs.LentLaws.{lent, lent-back}
 use Rattle.vectors.proofs.print_vector.Statement.{statement}
 use Rattle.vectors.proofs.print_vector.Tie as tie
 
+-- the places: the buffer lent, from where it is back; and the start
+abbrev at-lent : tie.After-result2 → tie.After-result
+at-lent c = c .before .before
+
+abbrev at-start : tie.After-result → tie.Start
+at-start c = c .before .before .before
+
 abbrev buffer : List ℕ
 buffer = replicate 1312 165
 
@@ -17,36 +24,31 @@ room-in : (room : ℕ) → room ≤ 1312 → room ≤ length buffer
 room-in room h = omega (arith, length-replicate {A = ℕ} 1312 165)
 
 -- the buffer is lent in part, and comes back whole
-whole : (c : tie.After-result2)
-    → let room = c .before .before .before .before .before .args .room in
-    length (c .before .reckon .last .1 .0 ++ drop room buffer) ≡ 1312
+whole : (c : tie.After-result2) → length (c .before .reckon .last .1 .0 ++ drop (at-start (at-lent c) .args .room) buffer) ≡ 1312
 whole c =
-    let at-start = c .before .before .before .before .before in
-    lent-back _ (c .before .reckon .last .1 .0) buffer (c .result2 .given) (room-in _ (at-start .pre .1)) ∙ length-replicate {A = ℕ} 1312 165
+    let (label, room) = at-start (at-lent c) .pre in
+    lent-back _ (c .before .reckon .last .1 .0) buffer (c .result2 .given) (room-in _ room) ∙ length-replicate {A = ℕ} 1312 165
 
 array-borrow-prefix-result : tie.Need-array-borrow-prefix-result
 array-borrow-prefix-result c = search needs
 
 slice-aggregate-reckon : tie.Need-slice-aggregate-reckon
-slice-aggregate-reckon c =
-    let at-start = c .before .before .before in
-    lent _ _ (room-in _ (at-start .pre .1))
+slice-aggregate-reckon c = let (label, room) = at-start c .pre in lent _ _ (room-in _ room)
 
 reckon-requires : tie.Need-reckon-requires
 reckon-requires c κs = search needs
 
 array-share-prefix-result : tie.Need-array-share-prefix-result
-array-share-prefix-result c =
-    let at-start = c .before .before .before .before .before .before in
-    omega (arith, whole (c .before), at-start .pre .1)
+array-share-prefix-result c = let (label, room) = at-start (at-lent (c .before)) .pre in omega (arith, whole (c .before), room)
 
 slice-aggregate-print-call : tie.Need-slice-aggregate-print-call
 slice-aggregate-print-call c = lent _ _ (array-share-prefix-result (c .before))
 
 print-call-requires : tie.Need-print-call-requires
 print-call-requires c κs =
-    let at-start = c .before .before .before .before .before .before .before in
-    (at-start .pre .0, omega (arith, slice-aggregate-print-call c, at-start .pre .1))
+    let at-accepted = c .before in
+    let (label, room) = at-start (at-lent (at-accepted .before)) .pre in
+    (label, omega (arith, slice-aggregate-print-call c, room))
 
 returns : tie.Need-returns
 returns c = search needs

@@ -9,6 +9,13 @@ use Rattle.console.proofs.LentLaws.{lent, lent-back}
 use Rattle.vectors.proofs.try_vector.Statement.{statement}
 use Rattle.vectors.proofs.try_vector.Tie as tie
 
+-- the places: the label lent, from where it was read; and the dossier's buffer made
+abbrev at-label : tie.Else2 → tie.After-label
+at-label c = c .before .before .before
+
+abbrev at-buffer : tie.After-label → tie.After-large-buffer
+at-buffer c = c .before .before .before
+
 abbrev labels : List ℕ
 labels = replicate 100 0
 
@@ -25,14 +32,10 @@ label-read c =
 
 -- so is the dossier's
 abbrev buffer-of : tie.Else2 → List ℕ
-buffer-of c =
-    let at-label = c .before .before .before in
-    at-label .before .before .before .large-buffer .result
+buffer-of c = at-buffer (at-label c) .large-buffer .result
 
 dossier-in : (c : tie.Else3) → c .before .read-length2 .result ≤ length (buffer-of (c .before .before))
-dossier-in c =
-    let at-label = c .before .before .before .before .before in
-    omega (arith, at-label .before .before .before .large-buffer .ensures)
+dossier-in c = omega (arith, at-buffer (at-label (c .before .before)) .large-buffer .ensures)
 
 dossier-read : (c : tie.After-dossier2)
     → let at-length = c .before .before .before .before in
