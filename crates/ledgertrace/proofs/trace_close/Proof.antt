@@ -12,8 +12,11 @@ use Rattle.ledgertrace.proofs.trace_close.Tie as tie
 abbrev at-told : tie.After-years → tie.After-enum-told
 at-told c = c .before .before
 
+abbrev at-ledger : tie.After-years → tie.After-ledger
+at-ledger c = at-told c .before .before
+
 abbrev at-close : tie.After-years → tie.After-close
-at-close c = at-told c .before .before .before .before .before
+at-close c = at-ledger c .before .before .before
 
 abbrev at-start : tie.After-years → tie.Start
 at-start c = at-close c .before .before .before .before

@@ -7,6 +7,13 @@ use Rattle.printout.proofs.PrintoutLaws.{sheet-written}
 use Rattle.printout.proofs.write_ledger_sheet.Statement.{statement}
 use Rattle.printout.proofs.write_ledger_sheet.Tie as tie
 
+-- the places: the ledger closed, and the start
+abbrev at-close : tie.After-first-year → tie.After-close
+at-close c = c .before .before
+
+abbrev at-start : tie.After-first-year → tie.Start
+at-start c = at-close c .before .before
+
 slice-aggregate-close : tie.Need-slice-aggregate-close
 slice-aggregate-close c = search needs
 
@@ -18,7 +25,7 @@ first-year-requires c κs = search needs
 
 cast-write-sheet : tie.Need-cast-write-sheet
 cast-write-sheet c =
-    let kept = handed-kept (c .before .before .before .before .pre) in
+    let kept = handed-kept (at-start c .pre) in
     omega (arith, kept .years, c .first-year .ensures)
 
 years-requires : tie.Need-years-requires
@@ -27,15 +34,15 @@ years-requires c κs = search needs
 write-sheet-requires : tie.Need-write-sheet-requires
 write-sheet-requires c κs =
     let at-years = c .before .before in
-    let kept = handed-kept (at-years .before .before .before .before .before .pre) in
+    let kept = handed-kept (at-start (at-years .before) .pre) in
     omega (arith, kept .count, at-years .years .ensures)
 
 returns : tie.Need-returns
 returns c =
     let at-years = c .before .before .before in
     let at-first = at-years .before in
-    let at-close = at-first .before .before in
-    sheet-written _ _ _ _ _ _ _ (at-first .first-year .ensures) (at-years .years .ensures) (at-close .close .ensures .1 .0) (c .write-sheet .ensures)
+    let (answer, (written, handed)) = at-close at-first .close .ensures in
+    sheet-written _ _ _ _ _ _ _ (at-first .first-year .ensures) (at-years .years .ensures) written (c .write-sheet .ensures)
 
 pub write-ledger-sheet-spec : {M : Type 1} → statement M
 write-ledger-sheet-spec =
