@@ -14,6 +14,19 @@ use Rattle.report.proofs.ReportLaws.{stored-more}
 use Rattle.report.proofs.put_year.Statement.{statement}
 use Rattle.report.proofs.put_year.Tie as tie
 
+-- the places: the second four lent, from their last figure; the first four written; their first figure; the start
+abbrev at-second : tie.After-struct-told8 → tie.After-put-four-arg2
+at-second c = c .before .before .before .before
+
+abbrev at-first : tie.After-struct-told8 → tie.After-put-four
+at-first c = at-second c .before .before .before
+
+abbrev at-told : tie.After-struct-told8 → tie.After-struct-told
+at-told c = at-first c .before .before .before .before
+
+abbrev at-start : tie.After-struct-told8 → tie.Start
+at-start c = at-told c .before .before .before
+
 -- a signed number that fits is read as it stands
 read : (z : ℤ) → mag z < 2 ^ 63 → toZ w64 (ofZ w64 z) ≡ z
 read z h = toZ-ofZ (sfits-of h)
@@ -25,24 +38,19 @@ add-put-four : tie.Need-add-put-four
 add-put-four c = search needs
 
 put-four-requires-2 : tie.Need-put-four-requires-2
-put-four-requires-2 c κs =
-    let at-first = c .before .before .before .before .before .before .before in
-    let at-start = at-first .before .before .before .before .before .before .before in
-    omega (arith, at-first .put-four .kept .0, at-start .pre)
+put-four-requires-2 c κs = omega (arith, at-first c .put-four .kept .0, at-start c .pre)
 
 same-length : tie.Need-same-length
 same-length c = search needs
 
 returns : tie.Need-returns
 returns c =
-    let at-second = c .before .before in
-    let at-first = at-second .before .before .before .before .before .before .before .before in
-    let at-told = at-first .before .before .before .before in
-    let at-start = at-told .before .before .before in
-    let given = at-start .args in
+    let at-written = c .before .before in
+    let last = at-written .before in
+    let given = at-start last .args in
     let f = given .f in
     -- that each figure fits, in the order of the fields
-    let t1 = at-told .struct-told .given in
+    let t1 = at-told last .struct-told .given in
     let t2 = t1 .1 in
     let t3 = t2 .1 in
     let t4 = t3 .1 in
@@ -50,9 +58,9 @@ returns c =
     let t6 = t5 .1 in
     let t7 = t6 .1 in
     let t8 = t7 .1 in
-    at-second .put-four2 .ensures
+    at-written .put-four2 .ensures
     ∙ rw (
-      at-first .put-four .ensures,
+      at-first last .put-four .ensures,
       read (f .reference .0) (t1 .0 .1 .1 .0 .1),
       read (f .project .0) (t2 .0 .1 .1 .0 .1),
       read (f .activity .0) (t3 .0 .1 .1 .0 .1),
