@@ -33,6 +33,13 @@ cells s at k = numbers k 8 (drop (at + 2) s)
 abbrev pub weight : List ℕ → List ℕ → ℕ → ℕ → ℕ
 weight s factors at k = sum k (λ i. fieldAt 8 s (at + 2 + 8 * i) * getD factors i 0)
 
+-- the total and the carbon after k conversions: rest is left of all, and they weigh units
+pub record SoFar (s factors : List ℕ) (at all rest units k : ℕ) : Type 0 where
+  pub bound : k ≤ 144
+  pub left : total (cells s at k) + rest ≡ all
+  pub carbon : units ≡ weight s factors at k
+  pub most : units ≤ total (cells s at k) * 65535
+
 weight-all : (s factors : List ℕ) (at : ℕ) → weight s factors at 144 ≡ monitoredCarbon (entry factors) (cells s at 144)
 unfolding fieldAt
 weight-all s factors at =
