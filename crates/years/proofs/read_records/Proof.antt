@@ -13,19 +13,30 @@ use Rattle.years.proofs.YearLaws.{rest-is, run-no, run-yes, run-refused
 use Rattle.years.proofs.read_records.Statement.{statement}
 use Rattle.years.proofs.read_records.Tie as tie
 
+-- the places: the records read, from where their answer is taken apart; the start
+abbrev at-run : tie.After-grams → tie.After-read-run
+at-run c = c .before .before
+
+abbrev at-start : tie.After-read-run → tie.Start
+at-start c = c .before .before .before
+
 -- what the run says of the part
-run : (c : tie.After-read-run) → let a = c .before .before .before .args in let part = drop (a .at) (a .s .now) in
+run : (c : tie.After-read-run)
+    → let a = at-start c .args in
+    let part = drop (a .at) (a .s .now) in
     (runSays part (c .read-run .result) ≡ summedActivities part) × runInside part (c .read-run .result)
-run c = let a = c .before .before .before .args in rw (rest-is (a .s .now) (a .at)) at (c .read-run .ensures)
+run c = let a = at-start c .args in rw (rest-is (a .s .now) (a .at)) at (c .read-run .ensures)
 
 -- a run that was read
-read : (c : tie.After-known-told2) → let a = c .before .before .before .before .before .before .args in let next = a .at + c .before .grams .given .0 .1 .0 in
-    (accepted (c .before .grams .given .0 .0) (drop next (a .s .now)) ≡ summedActivities (drop (a .at) (a .s .now)))
-    × (next ≤ length (a .s .now)) × (mag (c .before .grams .given .0 .0 .0) ≤ greatestActivity)
+read : (c : tie.After-grams)
+    → let a = at-start (at-run c) .args in
+    let next = a .at + c .grams .given .0 .1 .0 in
+    (accepted (c .grams .given .0 .0) (drop next (a .s .now)) ≡ summedActivities (drop (a .at) (a .s .now)))
+    × (next ≤ length (a .s .now)) × (mag (c .grams .given .0 .0 .0) ≤ greatestActivity)
 read c =
-    let at-run = c .before .before .before in
-    let at-start = at-run .before .before .before in
-    run-was-read (at-start .args .s .now) (at-start .args .at) _ _ (run at-run .0) _ _ (at-start .pre) (c .before .grams .given .1) (run at-run .1)
+    let (says, inside) = run (at-run c) in
+    let start = at-start (at-run c) in
+    run-was-read (start .args .s .now) (start .args .at) _ _ says _ _ (start .pre) (c .grams .given .1) inside
 
 sub-read-run : tie.Need-sub-read-run
 sub-read-run c = search needs
@@ -46,16 +57,18 @@ enum-known-grams : tie.Need-enum-known-grams
 enum-known-grams c = search needs
 
 add-t15 : tie.Need-add-t15
-add-t15 c = omega (arith, read c .1)
+add-t15 c = omega (arith, read (c .before) .1)
 
 returns : tie.Need-returns
 returns c =
-    let at-run = c .before .before .before in
-    let a = at-run .before .before .before .args in
-    (run-no _ _ _ _ _ (run-refused (a .s .now) (a .at) _ _ (run at-run .0) _ (c .before .n .given .1)), tt)
+    let at-answer = c .before in
+    let ran = at-answer .before .before in
+    let (says, inside) = run ran in
+    let a = at-start ran .args in
+    (run-no _ _ _ _ _ (run-refused (a .s .now) (a .at) _ _ says _ (at-answer .n .given .1)), tt)
 
 returns-2 : tie.Need-returns-2
-returns-2 c = let r = read c in (run-yes _ _ _ _ _ _ (r .0), (r .1, r .2))
+returns-2 c = let (says, within, small) = read (c .before) in (run-yes _ _ _ _ _ _ says, (within, small))
 
 pub read-records-spec : {M : Type 1} → statement M
 read-records-spec =

@@ -7,6 +7,19 @@ use Rattle.years.proofs.YearLaws.{year-none, year-no, year-other, days-
 use Rattle.years.proofs.read_year.Statement.{statement}
 use Rattle.years.proofs.read_year.Tie as tie
 
+-- the places: the days read, from where they are tested; the year read; mark and length tested; the start
+abbrev at-days : tie.After-outside → tie.After-field162
+at-days c = c .before .before
+
+abbrev at-year : tie.After-field162 → tie.After-field16
+at-year c = c .before .before
+
+abbrev at-begun : tie.After-field16 → tie.After-begun
+at-begun c = c .before .before
+
+abbrev at-start : tie.After-begun → tie.Start
+at-start c = c .before .before .before
+
 none-left-requires : tie.Need-none-left-requires
 none-left-requires c κs = search needs
 
@@ -18,8 +31,10 @@ begun-requires c κs = search needs
 
 returns-2 : tie.Need-returns-2
 returns-2 c =
-    let a = c .before .before .before .before .args in
-    (year-no _ _ _ _ _ (a .s .now) (a .at) _ (c .before .begun .ensures .0) (c .before .before .if1 .left) (c .if2 .taken), (tt, tt))
+    let begun = c .before in
+    let (says, room) = begun .begun .ensures in
+    let a = at-start begun .args in
+    (year-no _ _ _ _ _ (a .s .now) (a .at) _ says (begun .before .if1 .left) (c .if2 .taken), (tt, tt))
 
 add-field16 : tie.Need-add-field16
 add-field16 c = search needs
@@ -29,8 +44,11 @@ field16-requires c κs = search needs
 
 returns-3 : tie.Need-returns-3
 returns-3 c =
-    let at-begun = c .before .before .before in
-    (year-other _ _ _ _ _ _ _ _ (at-begun .begun .ensures .0) (c .before .before .if2 .left) (at-begun .before .if1 .left) _ _ (c .before .field16 .ensures .0) refl (c .if3 .taken), (tt, tt))
+    let year = c .before in
+    let begun = at-begun year in
+    let (says, room) = begun .begun .ensures in
+    let (read, below) = year .field16 .ensures in
+    (year-other _ _ _ _ _ _ _ _ says (year .before .if2 .left) (begun .before .if1 .left) _ _ read refl (c .if3 .taken), (tt, tt))
 
 add-field16-2 : tie.Need-add-field16-2
 add-field16-2 c = search needs
@@ -46,14 +64,14 @@ outside-requires c κs = search needs
 
 returns-4 : tie.Need-returns-4
 returns-4 c =
-    let at-days = c .before .before .before in
-    let at-year = at-days .before in
-    let at-begun = at-year .before .before .before in
-    let read-due = sym (at-year .if3 .left) ∙ at-year .before .field16 .ensures .0 in (
-      days-wrong _ _ _ _ _ _ _ _ (at-begun .begun .ensures .0) (at-year .before .before .if2 .left) (at-begun .before .if1 .left) _ _ read-due (at-days .field162 .ensures .0)
-          refl _ (c .before .before .days-in-year .ensures) _ (c .before .outside .ensures) (c .if4 .taken),
-      (tt, tt),
-    )
+    let at-outside = c .before in
+    let days = at-days at-outside in
+    let year = at-year days in
+    let begun = at-begun year in
+    let (says, room) = begun .begun .ensures in
+    let due = sym (days .before .if3 .left) ∙ year .field16 .ensures .0 in
+    let wrong = days-wrong _ _ _ _ _ _ _ _ says (year .before .if2 .left) (begun .before .if1 .left) _ _ due (days .field162 .ensures .0) in
+    (wrong refl _ (at-outside .before .days-in-year .ensures) _ (at-outside .outside .ensures) (c .if4 .taken), (tt, tt))
 
 add-read-tables : tie.Need-add-read-tables
 add-read-tables c = search needs
@@ -64,16 +82,18 @@ read-tables-requires c κs = search needs
 returns-5 : tie.Need-returns-5
 returns-5 c =
     let at-outside = c .before .before in
-    let at-D = at-outside .before in
-    let at-days = at-D .before in
-    let at-year = at-days .before in
-    let at-begun = at-year .before .before .before in
-    let read-due = sym (at-year .if3 .left) ∙ at-year .before .field16 .ensures .0 in
+    let days = at-days at-outside in
+    let year = at-year days in
+    let begun = at-begun year in
+    let (says, room) = begun .begun .ensures in
+    let some = begun .before .if1 .left in
+    let due = sym (days .before .if3 .left) ∙ year .field16 .ensures .0 in
+    let most = at-outside .before .days-in-year .ensures in
+    let right = days-right _ _ _ _ _ _ _ _ says (year .before .if2 .left) some _ _ due (days .field162 .ensures .0) in
     let inside = not-outside _ _ _ (sym (at-outside .outside .ensures) ∙ c .before .if4 .left) in
-    let read = c .read-tables .ensures in (
-      read .0 ∙ days-right _ _ _ _ _ _ _ _ (at-begun .begun .ensures .0) (at-year .before .before .if2 .left) (at-begun .before .if1 .left) _ _ read-due (at-days .field162 .ensures .0)
-          refl _ (at-D .days-in-year .ensures) _ (at-outside .outside .ensures) (c .before .if4 .left),
-      (read .1, fits _ (at-begun .before .before .before .args .s .now) (c .read-tables .result) _ _ _ _ _ _ (read .0) (at-begun .before .if1 .left) (rw (at-D .days-in-year .ensures) at (inside .most))),
+    let (tables, fitting) = c .read-tables .ensures in (
+      tables ∙ right refl _ most _ (at-outside .outside .ensures) (c .before .if4 .left),
+      (fitting, fits _ (at-start begun .args .s .now) (c .read-tables .result) _ _ _ _ _ _ tables some (rw most at (inside .most))),
     )
 
 pub read-year-spec : {M : Type 1} → statement M
