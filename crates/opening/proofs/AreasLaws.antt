@@ -25,6 +25,14 @@ areas-refused s r n j e q = rw e (q, tt)
 pub amounts-next : (l : List AreaUnits) (i : ℕ) (a : AreaUnits) → i < length l → amounts (take (suc i) (set l i a)) ≡ amounts (take i l) ++ (a .0 ∷ [])
 amounts-next l i a h = rw (take-suc-set l i a h, map-append)
 
+-- the areas and their sum after i fields
+pub record SoFar (s : List ℕ) (at : ℕ) (areas : List AreaUnits) (sum i : ℕ) : Type 0 where
+  pub bound : i ≤ 12
+  pub twelve : length areas ≡ 12
+  pub stored : amounts (take i areas) ≡ numbers i 8 (drop (at + 2) s)
+  pub summed : sum ≡ total (numbers i 8 (drop (at + 2) s))
+  pub most : sum ≤ 1000000000000
+
 module _ (s : List ℕ) (at m least r : ℕ) (h : begunSays s at r ≡ begin m 96 (drop at s)) where
   pub areas-no : (r ≡ 0 → ⊥) → refused r ≡ areas m least (drop at s)
   unfolding areas

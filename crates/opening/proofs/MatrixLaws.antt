@@ -31,7 +31,8 @@ abbrev pub RowsRight : List ℕ → ℕ → ℕ → Type 0
 RowsRight s at i = rows i (numbers 144 4 (drop (at + 2) s)) (drop (at + 578) s) ≡ accepted tt (drop (at + 578) s)
 
 -- ---- a matrix stored row by row
-pub next-row : (l m n s : List ℕ) (at i : ℕ) → m ≡ sets l 0 (numbers (12 * i) 4 (drop at s)) → n ≡ sets m (12 * i) (numbers 12 4 (drop (at + 48 * i) s)) → n ≡ sets l 0 (numbers (12 * suc i) 4 (drop at s))
+pub next-row : (l m n s : List ℕ) (at i : ℕ) → m ≡ sets l 0 (numbers (12 * i) 4 (drop at s)) → n ≡ sets m (12 * i) (numbers 12 4 (drop (at + 48 * i) s))
+    → n ≡ sets l 0 (numbers (12 * suc i) 4 (drop at s))
 next-row l m n s at i p q =
     let xs = numbers (12 * i) 4 (drop at s) in
     let e : 12 * suc i ≡ 12 * i + 12 = omega arith in
