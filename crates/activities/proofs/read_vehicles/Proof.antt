@@ -10,10 +10,21 @@ use Rattle.activities.proofs.RecordLaws.{judging}
 use Rattle.activities.proofs.read_vehicles.Statement.{statement}
 use Rattle.activities.proofs.read_vehicles.Tie as tie
 
+-- the places: kind and count tested, from where all four fields are; the rate read, the last of them
+abbrev at-tested : tie.Else5 → tie.Else3
+at-tested c = c .before .before .before .before
+
+abbrev at-rate : tie.Else5 → tie.After-field323
+at-rate c = at-tested c .before .before .before .before
+
 -- count, average and rate, once tested
-factors : (c : tie.Else5) → let r = c .before .before .before .before .before .before .before .before in
-    (r .before .before .field32 .result ≤ 1000) × (r .before .field322 .result ≤ 1000000) × (r .field323 .result ≤ 100000)
-factors c = (search judging, search judging, search judging)
+record Factors (c : tie.Else5) : Type 0 where
+  count : at-rate c .before .before .field32 .result ≤ 1000
+  average : at-rate c .before .field322 .result ≤ 1000000
+  rate : at-rate c .field323 .result ≤ 100000
+
+factors : (c : tie.Else5) → Factors c
+factors c = record { count = search judging; average = search judging; rate = search judging }
 
 sub-if1 : tie.Need-sub-if1
 sub-if1 c = search needs
@@ -72,10 +83,10 @@ unfolding fieldsOf total inRange
 returns-5 c = (search judging depth 12, tt)
 
 mul-outside : tie.Need-mul-outside
-mul-outside c = let f = factors c in omega (arith, mul-le-mul (f .0) (f .1))
+mul-outside c = let f = factors c in omega (arith, mul-le-mul (f .count) (f .average))
 
 mul-outside-2 : tie.Need-mul-outside-2
-mul-outside-2 c = let f = factors c in omega (arith, mul-le-mul (mul-le-mul (f .0) (f .1)) (f .2))
+mul-outside-2 c = let f = factors c in omega (arith, mul-le-mul (mul-le-mul (f .count) (f .average)) (f .rate))
 
 outside-requires-5 : tie.Need-outside-requires-5
 outside-requires-5 c κs = search needs
