@@ -22,7 +22,7 @@ abbrev weight : tie.After-n2o-share → ℕ
 weight c = c .n2o-share .result * 3278
 
 nitrogen-most : (c : tie.After-n2o-share) → nitrogen c ≤ 100000000000000
-nitrogen-most c = omega (arith, mul-le-mul (c .before .pre .1 .1 .0) (c .before .pre .1 .1 .1))
+nitrogen-most c = let (source, (crop, (grams, content))) = c .before .pre in omega (arith, mul-le-mul grams content)
 
 weight-most : (c : tie.After-n2o-share) → weight c ≤ 4671150
 weight-most c = omega arith

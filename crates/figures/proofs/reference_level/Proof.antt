@@ -22,13 +22,19 @@ unfolding referenceLevel
 whole carbon days yeardays h = split-down carbon (11 * days) (300 * yeardays) (omega arith) ∙ ap (λ (n : ℕ). n / (300 * yeardays)) (sym (mul-assoc carbon 11 days))
 
 returns : tie.Need-returns
-returns c = let b = c .before .before .before in c .of .ensures ∙ ap pos (whole (b .args .carbon .0) (b .args .days) (b .args .yeardays) (b .pre .1 .1))
+returns c =
+    let at-start = c .before .before .before in
+    let a = at-start .args in
+    let (small, (inside, some, most)) = at-start .pre in
+    c .of .ensures ∙ ap pos (whole (a .carbon .0) (a .days) (a .yeardays) some)
 
 -- so each part is within the bound of the whole
-parts-small : (c : tie.After-struct-known) → parts (c .before .args .carbon .0) (11 * c .before .args .days) (300 * c .before .args .yeardays) ≤ greatestEmissions
+parts-small : (c : tie.After-struct-known) → let a = c .before .args in parts (a .carbon .0) (11 * a .days) (300 * a .yeardays) ≤ greatestEmissions
 parts-small c =
-    let pre = c .before .pre in
-    rw (whole (c .before .args .carbon .0) (c .before .args .days) (c .before .args .yeardays) (pre .1 .1)) (reference-small (pre .0) (pre .1))
+    let a = c .before .args in
+    let (small, days) = c .before .pre in
+    let (inside, some, most) = days in
+    rw (whole (a .carbon .0) (a .days) (a .yeardays) some) (reference-small small days)
 
 mul-weight : tie.Need-mul-weight
 mul-weight c = search needs

@@ -14,29 +14,37 @@ use Rattle.figures.proofs.FiguresLaws.{reference-small, emissions-small
 use Rattle.figures.proofs.year_figures.Statement.{statement}
 use Rattle.figures.proofs.year_figures.Tie as tie
 
+-- the places: the project's emissions, from the belt's reference level; the project's reference level; the start
+abbrev at-emitted : tie.After-reference-level2 → tie.After-stock-change-emissions
+at-emitted c = c .before .before
+
+abbrev at-reference : tie.After-reference-level2 → tie.After-reference-level
+at-reference c = at-emitted c .before
+
+abbrev at-start : tie.After-reference-level2 → tie.Start
+at-start c = at-reference c .before
+
 -- what the calls give is what carbon makes
 small : (c : tie.After-reference-level2)
-    → let own = c .before .before in
-    (mag (own .before .reference-level .result .0) ≤ greatestEmissions) × (mag (own .stock-change-emissions .result .0) ≤ greatestEmissions)
+    → (mag (at-reference c .reference-level .result .0) ≤ greatestEmissions) × (mag (at-emitted c .stock-change-emissions .result .0) ≤ greatestEmissions)
     × (mag (c .before .stock-change-emissions2 .result .0) ≤ greatestEmissions) × (mag (c .reference-level2 .result .0) ≤ greatestEmissions)
 small c =
-    let own = c .before .before in
-    let ((project, belt, activity), days) = own .before .before .pre in (
-      rw (own .before .reference-level .ensures) (reference-small (project .0) days),
-      rw (own .stock-change-emissions .ensures) (emissions-small (project .1)),
+    let ((project, belt, activity), days) = at-start c .pre in (
+      rw (at-reference c .reference-level .ensures) (reference-small (project .0) days),
+      rw (at-emitted c .stock-change-emissions .ensures) (emissions-small (project .1)),
       rw (c .before .stock-change-emissions2 .ensures) (emissions-small (belt .1)),
       rw (c .reference-level2 .ensures) (reference-small (belt .0) days),
     )
 
 -- the code's names, after the call of displaced_emissions, and their differences one after the other
 abbrev reference : tie.After-displaced-emissions → ℤ
-reference c = c .before .before .before .before .reference-level .result .0
+reference c = at-reference (c .before) .reference-level .result .0
 
 abbrev emitted : tie.After-displaced-emissions → ℤ
-emitted c = c .before .before .before .stock-change-emissions .result .0
+emitted c = at-emitted (c .before) .stock-change-emissions .result .0
 
 abbrev activity : tie.After-displaced-emissions → ℤ
-activity c = c .before .before .before .before .before .args .activity .0
+activity c = at-start (c .before) .args .activity .0
 
 abbrev displaced : tie.After-displaced-emissions → ℤ
 displaced c = c .displaced-emissions .result .0
@@ -45,9 +53,9 @@ steps : (c : tie.After-displaced-emissions)
     → (mag (reference c -ℤ emitted c) < greatestFigure) × (mag (reference c -ℤ emitted c -ℤ activity c) < greatestFigure)
     × (mag (reference c -ℤ emitted c -ℤ activity c -ℤ displaced c) < greatestFigure)
 steps c =
-    let at-start = c .before .before .before .before .before in
+    let ((project, belt, bounded), days) = at-start (c .before) .pre in
     let (r, e, b, k) = small (c .before) in
-    reduction-steps (reference c) (emitted c) (activity c) (displaced c) r e (at-start .pre .0 .2) (rw (c .displaced-emissions .ensures) (displaced-small _ _ b k))
+    reduction-steps (reference c) (emitted c) (activity c) (displaced c) r e bounded (rw (c .displaced-emissions .ensures) (displaced-small _ _ b k))
 
 reference-level-requires : tie.Need-reference-level-requires
 reference-level-requires c κs = search needs
@@ -62,7 +70,7 @@ reference-level-requires-2 : tie.Need-reference-level-requires-2
 reference-level-requires-2 c κs = search needs
 
 displaced-emissions-requires : tie.Need-displaced-emissions-requires
-displaced-emissions-requires c κs = (small c .2, small c .3)
+displaced-emissions-requires c κs = let (r, e, b, k) = small c in (b, k)
 
 minus-requires : tie.Need-minus-requires
 minus-requires c κs = fits (omega (arith, steps c .0))
@@ -103,13 +111,12 @@ returns c =
     let first = second .before in
     let after = first .before in
     let belt = after .before in
-    let own = belt .before .before in
-    let a = own .before .before .args in
+    let a = at-start belt .args in
     all-figures
     {b = pos (stockChangeEmissions (a .belt .monitored .0))}
     {k = pos (referenceLevel (a .belt .projected .0) (a .days) (a .yeardays))}
-    (own .before .reference-level .ensures)
-    (own .stock-change-emissions .ensures)
+    (at-reference belt .reference-level .ensures)
+    (at-emitted belt .stock-change-emissions .ensures)
     (belt .before .stock-change-emissions2 .ensures)
     (belt .reference-level2 .ensures)
     (after .displaced-emissions .ensures)
