@@ -45,7 +45,10 @@ returns-3 c = search tests
 
 returns-4 : tie.Need-returns-4
 unfolding emissionFactor
-returns-4 c = let a = c .before .before .before .before .before .args in none (eqb (a .j) TP || eqb (a .j) PP) _ _ (c .if3 .left)
+returns-4 c =
+    let at-classes = c .before .before .before in
+    let a = at-classes .before .before .args in
+    none (eqb (a .j) TP || eqb (a .j) PP) _ _ (c .if3 .left)
 
 pub emission-factor-spec : {M : Type 1} → statement M
 emission-factor-spec =

@@ -24,15 +24,30 @@ inflow areas matrix j i = flow areas matrix i j
 abbrev inflowed : List AreaUnits → List ℕ → List ℕ → ℕ → ℕ → ℕ
 inflowed areas matrix factors j i = flow areas matrix i j * entry factors i j
 
+-- the area that flowed in and its carbon after i classes
+record SoFar (areas : List AreaUnits) (matrix factors : List ℕ) (j flowed freed i : ℕ) : Type 0 where
+  bound : i ≤ 12
+  area : flowed ≡ sum i (inflow areas matrix j)
+  carbon : freed ≡ sum i (inflowed areas matrix factors j)
+
 abbrev Inv-loop : tie.InvT-loop
-Inv-loop matrix factors j areas area₀ carbon₀ i₀ area carbon i =
-    (i ≤ 12) × (area .0 ≡ sum i (inflow areas matrix j)) × (carbon .0 ≡ sum i (inflowed areas matrix factors j))
+Inv-loop matrix factors j areas area₀ carbon₀ i₀ area carbon i = SoFar areas matrix factors j (area .0) (carbon .0) i
 
 abbrev μ-loop : tie.MeasureT-loop
 μ-loop matrix factors j areas area₀ carbon₀ i₀ area carbon i = 12 - i
 
+-- the places: the flow of a class, from where its carbon is asked for; its turn of the loop; the start
+abbrev at-flow : tie.After-released-arg Inv-loop μ-loop → tie.After-flow Inv-loop μ-loop
+at-flow c = c .before .before
+
+abbrev at-loop : tie.After-flow-arg2 Inv-loop μ-loop → tie.At-loop Inv-loop μ-loop
+at-loop c = c .before .before .before
+
+abbrev at-start : tie.At-loop Inv-loop μ-loop → tie.Start Inv-loop μ-loop
+at-start c = c .before
+
 loop-holds : tie.Need-loop-holds Inv-loop μ-loop
-loop-holds c = (search needs, sym (sum-none _), sym (sum-none _))
+loop-holds c = record { bound = search needs; area = sym (sum-none _); carbon = sym (sum-none _) }
 
 mul-flow : tie.Need-mul-flow Inv-loop μ-loop
 mul-flow c = search needs
@@ -54,22 +69,19 @@ element-copy-out-flow c = search needs
 
 flow-requires : tie.Need-flow-requires Inv-loop μ-loop
 flow-requires c κs =
-    let at-loop = c .before .before .before in
-    let at-start = at-loop .before in
-    let a = at-start .args in
-    let (small, (rows, (fit, column))) = at-start .pre in
-    let class : at-loop .loop .i < 12 = omega arith in
+    let turn = at-loop c in
+    let a = at-start turn .args in
+    let (small, (rows, (fit, column))) = at-start turn .pre in
+    let class : turn .loop .i < 12 = omega arith in
     (le-trans (term-le 12 (area (a .t1)) _ class) small, probability-le (a .t1) (a .matrix .now) rows _ _ class column)
 
 -- one turn: the flows so far and the next one are no more than all areas, and their carbon as many times the greatest factor
-flow-fits : (c : tie.After-flow Inv-loop μ-loop)
-    → let at-loop = c .before .before .before .before in at-loop .loop .area .0 + c .flow .result .0 ≤ 1000000000000
+flow-fits : (c : tie.After-flow Inv-loop μ-loop) → at-loop (c .before) .loop .area .0 + c .flow .result .0 ≤ 1000000000000
 flow-fits c =
-    let at-loop = c .before .before .before .before in
-    let at-start = at-loop .before in
-    let a = at-start .args in
-    let (small, (rows, (fit, column))) = at-start .pre in
-    omega (arith, inflow-next (a .t1) (a .matrix .now) rows (at-loop .loop .i) (a .j) (omega arith) column)
+    let turn = at-loop (c .before) in
+    let a = at-start turn .args in
+    let (small, (rows, (fit, column))) = at-start turn .pre in
+    omega (arith, inflow-next (a .t1) (a .matrix .now) rows (turn .loop .i) (a .j) (omega arith) column)
 
 plus-requires : tie.Need-plus-requires Inv-loop μ-loop
 plus-requires c κs = omega (arith, flow-fits c)
@@ -88,26 +100,24 @@ element-copy-out-released c = search needs
 
 released-requires : tie.Need-released-requires Inv-loop μ-loop
 released-requires c κs =
-    let at-flow = c .before .before in
-    let at-start = at-flow .before .before .before .before .before in
-    let (small, (rows, (fit, column))) = at-start .pre in
-    (omega (arith, flow-fits at-flow), fit _)
+    let flow = at-flow c in
+    let (small, (rows, (fit, column))) = at-start (at-loop (flow .before)) .pre in
+    (omega (arith, flow-fits flow), fit _)
 
 -- the carbon of the flow from class i
 carbon-of : (c : tie.After-released Inv-loop μ-loop)
-    → let at-loop = c .before .before .before .before .before .before .before in
-    let a = at-loop .before .args in
-    c .released .result .0 ≡ inflowed (a .t1) (a .matrix .now) (a .factors .now) (a .j) (at-loop .loop .i)
-carbon-of c = let at-flow = c .before .before .before in rw (at-flow .flow .ensures) at (c .released .ensures)
+    → let turn = at-loop (at-flow (c .before) .before) in
+    let a = at-start turn .args in
+    c .released .result .0 ≡ inflowed (a .t1) (a .matrix .now) (a .factors .now) (a .j) (turn .loop .i)
+carbon-of c = rw (at-flow (c .before) .flow .ensures) at (c .released .ensures)
 
 plus-requires-2 : tie.Need-plus-requires-2 Inv-loop μ-loop
 plus-requires-2 c κs =
-    let at-loop = c .before .before .before .before .before .before .before in
-    let at-start = at-loop .before in
-    let a = at-start .args in
-    let (small, (rows, (fit, column))) = at-start .pre in
+    let turn = at-loop (at-flow (c .before) .before) in
+    let a = at-start turn .args in
+    let (small, (rows, (fit, column))) = at-start turn .pre in
     let carbon = inflow-carbon-next (a .t1) (a .matrix .now) rows (entry (a .factors .now)) 65535 (fitting-le (a .factors .now) fit) in
-    omega (arith, carbon-of c, carbon (at-loop .loop .i) (a .j) (omega arith) column, mul-le-mul-right 65535 small)
+    omega (arith, carbon-of c, carbon (turn .loop .i) (a .j) (omega arith) column, mul-le-mul-right 65535 small)
 
 add-i : tie.Need-add-i Inv-loop μ-loop
 add-i c = search needs
@@ -118,17 +128,17 @@ loop-less c = search needs
 loop-again : tie.Need-loop-again Inv-loop μ-loop
 loop-again c =
     let at-released = c .before in
-    let at-plus = at-released .before .before in
-    let at-loop = at-plus .before .before .before .before .before in
-    let a = at-loop .before .args in (
-      search needs,
-      omega (arith, sum-next (at-loop .loop .i) (inflow (a .t1) (a .matrix .now) (a .j))),
-      omega (arith, carbon-of at-released, sum-next (at-loop .loop .i) (inflowed (a .t1) (a .matrix .now) (a .factors .now) (a .j))),
-    )
+    let turn = at-loop (at-flow (at-released .before) .before) in
+    let a = at-start turn .args in
+    record {
+      bound = search needs;
+      area = omega (arith, sum-next (turn .loop .i) (inflow (a .t1) (a .matrix .now) (a .j)));
+      carbon = omega (arith, carbon-of at-released, sum-next (turn .loop .i) (inflowed (a .t1) (a .matrix .now) (a .factors .now) (a .j)));
+    }
 
 returns : tie.Need-returns Inv-loop μ-loop
 unfolding nextArea inflowCarbon
-returns c = let e : c .before .loop .i ≡ 12 = omega arith in (rw e at (c .before .loop .inv .1), rw e at (c .before .loop .inv .2))
+returns c = let e : c .before .loop .i ≡ 12 = omega arith in (rw e at (c .before .loop .inv .area), rw e at (c .before .loop .inv .carbon))
 
 pub flows-into-spec : {M : Type 1} → statement M
 flows-into-spec =
