@@ -30,8 +30,10 @@ near-credited {z} {x} l h = record {
     floored : Floor (z *ℤ pos 4) q 5
     floored = floorDiv-parts (z *ℤ pos 4) 5 (zero-lt-suc 4)
 
-    discounted-low : (p m d a b c e : ℕ) → 500 * (a * d) + 500 * m ≤ 500 * p + (500 * b + 0) * d → c * 5 + b * 4 ≤ a * 4 + e * 5 → 500 * (c * (d * 5)) + 500 * (m * 4) ≤ 500 * (p * 4) + (500 * e + 0) * (d * 5)
+    discounted-low : (p m d a b c e : ℕ) → 500 * (a * d) + 500 * m ≤ 500 * p + (500 * b + 0) * d → c * 5 + b * 4 ≤ a * 4 + e * 5
+        → 500 * (c * (d * 5)) + 500 * (m * 4) ≤ 500 * (p * 4) + (500 * e + 0) * (d * 5)
     discounted-low p m d a b c e f g = omega (arith, mul-le-mul-right (500 * d) g)
 
-    discounted-high : (p m d a b c e : ℕ) → 500 * (b * d) + 500 * p ≤ 500 * m + (500 * a + 5 * l) * d → a * 4 + e * 5 < c * 5 + b * 4 + 5 → 500 * (e * (d * 5)) + 500 * (p * 4) ≤ 500 * (m * 4) + (500 * c + (400 + 4 * l)) * (d * 5)
+    discounted-high : (p m d a b c e : ℕ) → 500 * (b * d) + 500 * p ≤ 500 * m + (500 * a + 5 * l) * d → a * 4 + e * 5 < c * 5 + b * 4 + 5
+        → 500 * (e * (d * 5)) + 500 * (p * 4) ≤ 500 * (m * 4) + (500 * c + (400 + 4 * l)) * (d * 5)
     discounted-high p m d a b c e f g = let g′ : a * 4 + e * 5 ≤ c * 5 + b * 4 + 4 = omega arith in omega (arith, mul-le-mul-right (500 * d) g′)

@@ -104,7 +104,10 @@ module _ (y start : ℕ) (region : Region) (areasᶠ : ℕ → Fraction) (s : Fo
 
     pub carbon-high : carbon-over ≤ (projectedCarbon factor (region .areas) matrix + G * (132 * suc y)) * (s .n * million)
     unfolding projectedCarbon
-    carbon-high = gap-closed carbon-over (projectedCarbon factor (region .areas) matrix) (sum2 classes (flow (region .areas) matrix)) (sum2 classes (λ i j. s .a i * entry matrix i j)) G (s .n * million) start (region .balance .0 + lost) (132 * suc y)
+    carbon-high =
+        let flows = sum2 classes (flow (region .areas) matrix) in
+        let unrounded = sum2 classes (λ i j. s .a i * entry matrix i j) in
+        gap-closed carbon-over (projectedCarbon factor (region .areas) matrix) flows unrounded G (s .n * million) start (region .balance .0 + lost) (132 * suc y)
         (F.carbon-gap classes million million-pos A (entry matrix) rows (s .n) (s .a) (s .below) G factor factor-le)
         (omega (arith, sum-swap classes classes (λ i j. s .a i * entry matrix i j), unrounded-kept))
         flows-kept

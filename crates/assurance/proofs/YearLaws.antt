@@ -44,10 +44,11 @@ module _ (t : Terms) (G : ℕ) (factor-le : (i j : ℕ) → emissionFactor (t .s
       → Near (pos (regionReference t y region)) (referenceᶠ t y areasᶠ) 0 (5 * (100 + 484 * (G * suc n)))
   unfolding regionReference referenceLevel referenceᶠ
   near-reference n start region areasᶠ y s dD = rw (mul-assoc C 11 d)
-      (near-ratio (C * (11 * d) / (300 * D)) 0 (5 * (100 + 484 * (G * suc n))) (mul-pos (mul-pos (s .n-pos) million-pos) (divisor-pos (y .year)))
+      (near-ratio R 0 (5 * (100 + 484 * (G * suc n))) (mul-pos (mul-pos (s .n-pos) million-pos) (divisor-pos (y .year)))
       (ratio-divided (300 * D) (divisor-pos (y .year)) (ratio-times (11 * d) (carbon-ratio n start region areasᶠ s (t .matrix) rows (emissionFactor (t .stocks)) G factor-le)))
-      (reference-below v C (s .n * million) (C * (11 * d) / (300 * D)) (11 * d) (300 * D) (carbon-low n start region areasᶠ s (t .matrix) rows (emissionFactor (t .stocks)) G factor-le) (div-mul-le-self (C * (11 * d)) (300 * D)))
-      (reference-above v C (s .n * million) (C * (11 * d) / (300 * D)) G (suc n) d D (carbon-high n start region areasᶠ s (t .matrix) rows (emissionFactor (t .stocks)) G factor-le)
+      (reference-below v C (s .n * million) R (11 * d) (300 * D) (carbon-low n start region areasᶠ s (t .matrix) rows (emissionFactor (t .stocks)) G factor-le)
+      (div-mul-le-self (C * (11 * d)) (300 * D)))
+      (reference-above v C (s .n * million) R G (suc n) d D (carbon-high n start region areasᶠ s (t .matrix) rows (emissionFactor (t .stocks)) G factor-le)
       (omega (arith, lt-div-mul-add {a = C * (11 * d)} (divisor-pos (y .year)))) dD))
     where
       d : ℕ
@@ -58,6 +59,9 @@ module _ (t : Terms) (G : ℕ) (factor-le : (i j : ℕ) → emissionFactor (t .s
 
       C : ℕ
       C = projectedCarbon (emissionFactor (t .stocks)) (region .areas) (t .matrix)
+
+      R : ℕ
+      R = C * (11 * d) / (300 * D)
 
       v : ℕ
       v = carbon-over n start region areasᶠ s (t .matrix) rows (emissionFactor (t .stocks)) G factor-le
@@ -73,7 +77,9 @@ near-emissions t conversions = near-up _ 300 (lit< tt) (ratio-quotient 300 (lit<
 near-activity : (records : List Activity) → Near (pos (activityEmissions records)) (activityᶠ records) (500 * length records) 0
 unfolding activityEmissions activityGrams activityᶠ
 near-activity [] = near-ratio 0 0 0 (zero-lt-suc 0) (ratio-natural 0) (omega arith) (omega arith)
-near-activity (a ∷ rest) = near-wider (omega arith) (omega arith) (near-sum (near-up (numerator a) (denominator a) (denominator-pos a) (ratio-quotient (denominator a) (denominator-pos a) (ratio-natural (numerator a)))) (near-activity rest))
+near-activity (a ∷ rest) =
+    let own = near-up (numerator a) (denominator a) (denominator-pos a) (ratio-quotient (denominator a) (denominator-pos a) (ratio-natural (numerator a))) in
+    near-wider (omega arith) (omega arith) (near-sum own (near-activity rest))
 
 -- ---- the year
 
@@ -87,7 +93,12 @@ pub record Reckoned (G n m projectStart beltStart : ℕ) (r : State) (u : Unroun
 pub opened-reckoned : (G : ℕ) (s : State) → s .project .balance .0 ≡ 0 → s .belt .balance .0 ≡ 0 → s .total .0 ≡ pos 0
     → Reckoned G 0 0 (areaTotal (s .project .areas)) (areaTotal (s .belt .areas)) s (openedᶠ s)
 unfolding openedᶠ
-opened-reckoned G s p b z = record { project = opened-follows (s .project) p; belt = opened-follows (s .belt) b; total = rw z (near-ratio 0 0 _ (zero-lt-suc 0) (ratio-natural 0) (omega arith) (omega arith)); none = λ h. (z, refl) }
+opened-reckoned G s p b z = record {
+  project = opened-follows (s .project) p;
+  belt = opened-follows (s .belt) b;
+  total = rw z (near-ratio 0 0 _ (zero-lt-suc 0) (ratio-natural 0) (omega arith) (omega arith));
+  none = λ h. (z, refl);
+}
 
 module _ (t : Terms) (G : ℕ) (factor-le : (i j : ℕ) → emissionFactor (t .stocks) i j ≤ G) (rows : RowsSum (t .matrix)) where
   module _ (n m projectStart beltStart : ℕ) (r : State) (u : Unrounded) (s : Reckoned G n m projectStart beltStart r u) (y : Year) (dD : y .operatingDays ≤ daysInYear (y .year)) where
@@ -97,8 +108,10 @@ module _ (t : Terms) (G : ℕ) (factor-le : (i j : ℕ) → emissionFactor (t .s
 
     near-reduction : Near (yearFigures t y (r .project) (r .belt) .reduction .0) (reductionᶠ t y u) 0 (5 * (968 * (G * suc n) + 400 + 100 * length (y .activities)))
     unfolding yearFigures figuresOf reductionOf reductionᶠ
-    near-reduction = near-wider (omega arith) (omega arith)
-        (near-minus (near-minus (near-minus (near-reference t G factor-le rows n projectStart (r .project) (u .project) y (s .project) dD) (near-emissions t (y .conversions))) (near-activity (y .activities))) near-displaced)
+    near-reduction =
+        let reference = near-reference t G factor-le rows n projectStart (r .project) (u .project) y (s .project) dD in
+        let own = near-minus (near-minus reference (near-emissions t (y .conversions))) (near-activity (y .activities)) in
+        near-wider (omega arith) (omega arith) (near-minus own near-displaced)
 
     near-credit : Near (yearFigures t y (r .project) (r .belt) .credited .0) (creditedᶠ (reductionᶠ t y u)) 0 (creditGap (968 * (G * suc n) + 400 + 100 * length (y .activities)))
     unfolding yearFigures figuresOf
