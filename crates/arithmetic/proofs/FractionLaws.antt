@@ -15,14 +15,16 @@ over x = above (x .num)
 abbrev pub under : Fraction → ℕ
 under x = below (x .num)
 
+-- a numerator times the other's denominator, by the parts
+crossed : (x y : Fraction) → (above (x .num *ℤ pos (y .den)) ≡ over x * y .den) × (below (x .num *ℤ pos (y .den)) ≡ under x * y .den)
+crossed x y = (mul-above (x .num) (y .den), mul-below (x .num) (y .den))
+
 -- the orders, by the parts
 pub parts-≤ᶠ : {x y : Fraction} → over x * y .den + under y * x .den ≤ over y * x .den + under x * y .den → x ≤ᶠ y
-parts-≤ᶠ {x} {y} h =
-    record { cross = parts-le (x .num *ℤ pos (y .den)) (y .num *ℤ pos (x .den)) (omega (arith, h, mul-above (x .num) (y .den), mul-below (x .num) (y .den), mul-above (y .num) (x .den), mul-below (y .num) (x .den))) }
+parts-≤ᶠ {x} {y} h = record { cross = parts-le (x .num *ℤ pos (y .den)) (y .num *ℤ pos (x .den)) (omega (arith, h, crossed x y, crossed y x)) }
 
 pub parts-<ᶠ : {x y : Fraction} → over x * y .den + under y * x .den < over y * x .den + under x * y .den → x <ᶠ y
-parts-<ᶠ {x} {y} h =
-    record { cross = parts-lt (x .num *ℤ pos (y .den)) (y .num *ℤ pos (x .den)) (omega (arith, h, mul-above (x .num) (y .den), mul-below (x .num) (y .den), mul-above (y .num) (x .den), mul-below (y .num) (x .den))) }
+parts-<ᶠ {x} {y} h = record { cross = parts-lt (x .num *ℤ pos (y .den)) (y .num *ℤ pos (x .den)) (omega (arith, h, crossed x y, crossed y x)) }
 
 -- a sum, by the parts
 pub sum-parts : (x y : Fraction) → over (x +ᶠ y) + (under x * y .den + under y * x .den) ≡ under (x +ᶠ y) + (over x * y .den + over y * x .den)

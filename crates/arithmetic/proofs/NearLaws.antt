@@ -44,9 +44,11 @@ sum-side p m d p′ m′ d′ s t a b a′ b′ c e k k′ v w h h′ =
 
 pub near-sum : {z z′ : ℤ} {x x′ : Fraction} {k k′ l l′ : ℕ} → Near z x k l → Near z′ x′ k′ l′ → Near (z +ℤ z′) (x +ᶠ x′) (k + k′) (l + l′)
 near-sum {z} {z′} {x} {x′} {k} {k′} {l} {l′} h h′ = record {
-  low = rw (sum-den x x′) (sum-side (over x) (under x) (x .den) (over x′) (under x′) (x′ .den) (over (x +ᶠ x′)) (under (x +ᶠ x′)) (above z) (below z) (above z′) (below z′) (above (z +ℤ z′)) (below (z +ℤ z′)) k k′
+  low = rw (sum-den x x′) (sum-side (over x) (under x) (x .den) (over x′) (under x′) (x′ .den) (over (x +ᶠ x′)) (under (x +ᶠ x′))
+      (above z) (below z) (above z′) (below z′) (above (z +ℤ z′)) (below (z +ℤ z′)) k k′
       (sum-parts x x′) (add-parts z z′) (h .low) (h′ .low));
-  high = rw (sum-den x x′) (sum-side (under x) (over x) (x .den) (under x′) (over x′) (x′ .den) (under (x +ᶠ x′)) (over (x +ᶠ x′)) (below z) (above z) (below z′) (above z′) (below (z +ℤ z′)) (above (z +ℤ z′)) l l′
+  high = rw (sum-den x x′) (sum-side (under x) (over x) (x .den) (under x′) (over x′) (x′ .den) (under (x +ᶠ x′)) (over (x +ᶠ x′))
+      (below z) (above z) (below z′) (above z′) (below (z +ℤ z′)) (above (z +ℤ z′)) l l′
       (sym (sum-parts x x′)) (sym (add-parts z z′)) (h .high) (h′ .high));
 }
 
@@ -82,4 +84,6 @@ gap-den z x = omega arith
 -- c times the gap is below b
 pub near-gap : {z : ℤ} {x : Fraction} {l : ℕ} (c b : ℕ) → Near z x 0 l → l * c < 500 * b → (x -ᶠ whole z) ×ᶠ c <ᶠ whole (pos b)
 unfolding whole _×ᶠ_
-near-gap {z} {x} {l} c b h k = parts-<ᶠ (simp (mul-above, mul-below, gap-den) (omega (arith, ap (λ (n : ℕ). n * c) (gap-parts z x), mul-le-mul-right c (h .high), mul-lt-mul-of-pos-right k (x .positive))))
+near-gap {z} {x} {l} c b h k =
+    let gap = ap (λ (n : ℕ). n * c) (gap-parts z x) in
+    parts-<ᶠ (simp (mul-above, mul-below, gap-den) (omega (arith, gap, mul-le-mul-right c (h .high), mul-lt-mul-of-pos-right k (x .positive))))
