@@ -1,7 +1,7 @@
 -- Readers at a place of the bytes, in the terms of the code that reads there.
 -- Assumes nothing.
 use Prim.Native.Nat.{ℕ, _+_, _*_, _-_, _<_, _≤_}
-use mathlib.Core.Path.{_≡_, refl, _∙_, sym}
+use mathlib.Core.Path.{_≡_, refl}
 use mathlib.Core.Bool.{Bool, true, false, cond}
 use mathlib.Core.List.{List}
 use native.Mathlib.Nat.{add-assoc}
@@ -11,31 +11,9 @@ use lib.ListN.{length, drop, length-drop}
 use lib.Seq.{drop-drop}
 use borrow.Author.Tests.{lt-ltb, le-ltb, eq-eqb, ne-eqb}
 use Rattle.wire.specs.Bytes.{numbers, fieldAt}
-use Rattle.dossier.specs.Reader.{Judged, refused, accepted, Reader, after, _>>=_, _>>_, give, stands, begin, field, fields, outside, within, equal, nothing, endOfPiece}
+use Rattle.dossier.specs.Reader.{Judged, refused, accepted, Reader, after, _>>=_, _>>_, give, stands, begin, field, fields, outside, within, equal}
 pub use Rattle.dossier.proofs.ReaderLaws.{bind-no, bind-yes, bind-bind, after-same}
-use Rattle.dossier.proofs.Refusals.{begin-short as short, begin-other as other, begin-cut as cut, begin-whole as whole}
 use Rattle.cursor.specs.Answers.{numberSays, begunSays}
-
--- ---- the four ways in which a record begins
-module _ (m n : ℕ) (s : List ℕ) (at : ℕ) where
-  pub begin-short : length s - at < 2 → refused 1 ≡ begin m n (drop at s)
-  begin-short h = sym (short m n (drop at s) (rw length-drop h))
-
-  module _ (long : 2 ≤ length s - at) (x : ℕ) (e : x ≡ fieldAt 2 s at) where
-    two : 2 ≤ length (drop at s)
-    two = rw length-drop long
-
-    pub begin-other : (x ≡ m → ⊥) → refused 2 ≡ begin m n (drop at s)
-    unfolding fieldAt
-    begin-other f = sym (other m n (drop at s) two (λ d. f (e ∙ d)))
-
-    pub begin-cut : x ≡ m → length s - at - 2 < n → refused 1 ≡ begin m n (drop at s)
-    unfolding fieldAt
-    begin-cut f l = sym (cut m n (drop at s) two (sym e ∙ f) (simp length-drop l))
-
-    pub begin-whole : x ≡ m → n ≤ length s - at - 2 → accepted tt (drop (at + 2) s) ≡ begin m n (drop at s)
-    unfolding fieldAt
-    begin-whole f l = rw drop-drop at (sym (whole m n (drop at s) two (sym e ∙ f) (simp length-drop l)))
 
 -- ---- what a number says of a reader r, and of what follows it
 module _ (r : Reader (Unit {0})) (u v : List ℕ) (n : ℕ) (h : numberSays v n ≡ r u) where
@@ -94,28 +72,6 @@ stands-short kind s at h = let k : length (drop at s) < 2 = rw length-drop h in 
 pub stands-here : (kind : ℕ → Bool) (s : List ℕ) (at x : ℕ) → 2 ≤ length s - at → x ≡ fieldAt 2 s at → stands kind (drop at s) ≡ kind x
 unfolding stands fieldAt
 stands-here kind s at x h e = let k : 2 ≤ length (drop at s) = rw length-drop h in simp (le-ltb _ _ k, ← e)
-
--- ---- the end of a piece at a place
-module _ (s : List ℕ) (at : ℕ) where
-  pub end-lone : length s - at ≡ 1 → refused 1 ≡ endOfPiece (drop at s)
-  unfolding endOfPiece
-  end-lone h = let k : length (drop at s) ≡ 1 = length-drop at s ∙ h in simp (eq-eqb _ _ k)
-
-  pub end-beyond : (length s - at ≡ 1 → ⊥) → 0 < length s - at → refused 2 ≡ endOfPiece (drop at s)
-  unfolding endOfPiece nothing
-  end-beyond f h =
-      let l = length-drop at s in
-      let k : length (drop at s) ≡ 1 → ⊥ = λ e. f (sym l ∙ e) in
-      let j : 0 < length (drop at s) = omega arith in
-      simp (ne-eqb _ _ k, lt-ltb _ _ j)
-
-  pub end-here : length s - at ≤ 0 → accepted tt (drop at s) ≡ endOfPiece (drop at s)
-  unfolding endOfPiece nothing
-  end-here h =
-      let l = length-drop at s in
-      let k : length (drop at s) ≡ 1 → ⊥ = λ e. omega arith in
-      let j : length (drop at s) ≤ 0 = omega arith in
-      simp (ne-eqb _ _ k, le-ltb _ _ j)
 
 -- ---- a value made of what was read
 pub record Made {A B : Type 0} (j : Judged A) (f : A → B) (b : B) (u : List ℕ) : Type 0 where

@@ -103,7 +103,7 @@ piece-exact {A} {r} {e} {P} x = record {
 }
   where
     ends-with : (a : A) (t : List ℕ) → t ≡ [] → (endOfPiece >> give a) t ≡ accepted a t
-    ends-with a t p = rw (p, piece-ends)
+    ends-with a t p = rw (p, piece-ends [] (omega arith))
 
     moved : (b : A) (u s : List ℕ) (a : A) (t : List ℕ) → P b u → s ≡ e b ++ u → u ≡ t → u ≡ [] → b ≡ a → (P a t × (t ≡ [])) × (s ≡ e a ++ t)
     moved b u s a t p q ut n m =

@@ -107,20 +107,20 @@ piece-fault r s n e f = rw (e, f)
 module _ (o : Opening) (p : OpeningInRange o) where
   pub opening-lone : (b : ℕ) → openingPiece (openingBytes o ++ (b ∷ [])) ≡ refused 1
   unfolding openingPiece
-  opening-lone b = piece-fault opening _ 1 (opening-exact .reads o (b ∷ []) tt p) (lone-byte b)
+  opening-lone b = piece-fault opening _ 1 (opening-exact .reads o (b ∷ []) tt p) (lone-byte (b ∷ []) refl)
 
   pub opening-beyond : (b c : ℕ) (t : List ℕ) → openingPiece (openingBytes o ++ (b ∷ c ∷ t)) ≡ refused 2
   unfolding openingPiece
-  opening-beyond b c t = piece-fault opening _ 2 (opening-exact .reads o (b ∷ c ∷ t) tt p) (beyond-piece b c t)
+  opening-beyond b c t = piece-fault opening _ 2 (opening-exact .reads o (b ∷ c ∷ t) tt p) (beyond-piece (b ∷ c ∷ t) (omega arith))
 
 module _ (due : Due) (h : DueInRange due) (y : Year) (p : YearInRange due y) where
   pub year-lone : (b : ℕ) → yearPiece due (yearBytes y ++ (b ∷ [])) ≡ refused 1
   unfolding yearPiece
-  year-lone b = piece-fault (year due) _ 1 (year-exact due h .reads y (b ∷ []) tt (p, alone b)) (lone-byte b)
+  year-lone b = piece-fault (year due) _ 1 (year-exact due h .reads y (b ∷ []) tt (p, alone b)) (lone-byte (b ∷ []) refl)
     where
       alone : (b : ℕ) → Over (b ∷ [])
       alone b = unfold stands in refl
 
   pub year-beyond : (b c : ℕ) (t : List ℕ) → Over (b ∷ c ∷ t) → yearPiece due (yearBytes y ++ (b ∷ c ∷ t)) ≡ refused 2
   unfolding yearPiece
-  year-beyond b c t v = piece-fault (year due) _ 2 (year-exact due h .reads y (b ∷ c ∷ t) tt (p, v)) (beyond-piece b c t)
+  year-beyond b c t v = piece-fault (year due) _ 2 (year-exact due h .reads y (b ∷ c ∷ t) tt (p, v)) (beyond-piece (b ∷ c ∷ t) (omega arith))

@@ -1,6 +1,6 @@
 -- The number of each refusal, where document 01 says it ("Causes and numbers", "Calls and sheet", "Slips seen in the old product").
 -- Assumes nothing.
-use Prim.Native.Nat.{ℕ, suc, _+_, _*_, _≤_, _<_}
+use Prim.Native.Nat.{ℕ, suc, _≤_, _<_}
 use mathlib.Core.Path.{_≡_, refl, _∙_, sym}
 use mathlib.Core.Bool.{Bool, true, false, cond}
 use mathlib.Core.List.{List, [], _∷_, _++_}
@@ -11,7 +11,7 @@ use lib.ListN.{length, take, drop}
 use Rattle.activity.specs.declared.Activity.{Activity}
 use Rattle.wire.specs.Bytes.{number, bytes}
 use Rattle.dossier.specs.Marks.{YR, EN}
-use Rattle.dossier.specs.Records.{Due, Dossier}
+use Rattle.dossier.specs.Records.{Due}
 use Rattle.dossier.specs.Reader.{refused, accepted, Reader, after, _>>_, refuse, mark, stands, is, upon, present, begin, nothing, endOfPiece}
 use Rattle.dossier.specs.JudgingRecords.{activityMark}
 use Rattle.dossier.specs.Judging.{run, activities, noneLeft, yearRecords, yearLeft, year, end}
@@ -91,19 +91,20 @@ pub after-end : (b : ℕ) (t : List ℕ) → end (bytes 2 EN ++ (b ∷ t)) ≡ r
 unfolding end upon nothing _>>_
 after-end b t = rw (stands-bytes (is YR) EN (b ∷ t) (lit< tt), mark-yes EN (b ∷ t) (lit< tt)) (simp (lt-ltb 0 (suc (length t)) (omega arith)))
 
-pub lone-byte : (b : ℕ) → endOfPiece (b ∷ []) ≡ refused 1
-unfolding endOfPiece nothing
-lone-byte b = refl
+module _ (s : List ℕ) where
+  pub lone-byte : length s ≡ 1 → endOfPiece s ≡ refused 1
+  unfolding endOfPiece
+  lone-byte h = simp (eq-eqb _ _ h)
 
-pub beyond-piece : (b c : ℕ) (t : List ℕ) → endOfPiece (b ∷ c ∷ t) ≡ refused 2
-unfolding endOfPiece nothing
-beyond-piece b c t = simp (ne-eqb (suc (suc (length t))) 1 (λ e. omega arith), lt-ltb 0 (suc (suc (length t))) (omega arith))
+  pub beyond-piece : 2 ≤ length s → endOfPiece s ≡ refused 2
+  unfolding endOfPiece nothing
+  beyond-piece h = simp (ne-eqb (length s) 1 (λ e. omega arith), lt-ltb 0 (length s) (omega arith))
 
-pub piece-ends : endOfPiece [] ≡ accepted tt []
-unfolding endOfPiece nothing
-piece-ends = refl
+  pub piece-ends : length s ≤ 0 → endOfPiece s ≡ accepted tt s
+  unfolding endOfPiece nothing
+  piece-ends h = simp (ne-eqb (length s) 1 (λ e. omega arith), le-ltb 0 (length s) h)
 
 pub piece-ends-only : (s : List ℕ) {x : Unit {0}} {t : List ℕ} → endOfPiece s ≡ accepted x t → (s ≡ []) × (t ≡ [])
-piece-ends-only [] e = (refl, sym (was (sym piece-ends ∙ e) .1))
-piece-ends-only (b ∷ []) e = no _ _ _ (sym (lone-byte b) ∙ e)
-piece-ends-only (b ∷ c ∷ s) e = no _ _ _ (sym (beyond-piece b c s) ∙ e)
+piece-ends-only [] e = (refl, sym (was (sym (piece-ends [] (omega arith)) ∙ e) .1))
+piece-ends-only (b ∷ []) e = no _ _ _ (sym (lone-byte (b ∷ []) refl) ∙ e)
+piece-ends-only (b ∷ c ∷ s) e = no _ _ _ (sym (beyond-piece (b ∷ c ∷ s) (omega arith)) ∙ e)
