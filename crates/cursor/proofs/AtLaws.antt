@@ -12,7 +12,6 @@ use lib.Seq.{drop-drop}
 use borrow.Author.Tests.{lt-ltb, le-ltb, eq-eqb, ne-eqb}
 use Rattle.wire.specs.Bytes.{numbers, fieldAt}
 use Rattle.dossier.specs.Reader.{Judged, refused, accepted, Reader, after, _>>=_, _>>_, give, stands, begin, field, fields, outside, within, equal}
-pub use Rattle.dossier.proofs.ReaderLaws.{bind-no, bind-yes, bind-bind, after-same}
 use Rattle.cursor.specs.Answers.{numberSays, begunSays}
 
 -- ---- what a number says of a reader r, and of what follows it

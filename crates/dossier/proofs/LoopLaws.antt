@@ -17,7 +17,6 @@ use Rattle.classes.specs.Matrix.{entry, million}
 use Rattle.wire.specs.Bytes.{number, numbers, total}
 use Rattle.dossier.specs.Reader.{Judged, refused, accepted, after, _>>_, give, equal}
 use Rattle.dossier.specs.JudgingRecords.{rows}
-use Rattle.dossier.proofs.Refusals.{first-fault}
 
 -- ---- a list of numbers
 numbers-snoc : (i w : ℕ) (s : List ℕ) → numbers (suc i) w s ≡ numbers i w s ++ (number (take w (drop (i * w) s)) ∷ [])
@@ -89,8 +88,8 @@ unfolding rows equal _>>_
 last-row-wrong k xs s h f = rw (h, ne-eqb _ _ f)
 
 earlier-row-wrong : (k : ℕ) (xs s : List ℕ) → rows k xs s ≡ refused 5 → rows (suc k) xs s ≡ refused 5
-unfolding rows
-earlier-row-wrong k xs s h = first-fault (rows k xs) _ s 5 h
+unfolding rows _>>_
+earlier-row-wrong k xs s h = rw h
 
 pub rows-wrong : (k : ℕ) (xs s : List ℕ) (i : ℕ) → i < k → (sum classes (entry xs i) ≡ million → ⊥) → rows k xs s ≡ refused 5
 rows-wrong zero xs s i l f = absurd (omega arith)

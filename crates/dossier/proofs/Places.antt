@@ -15,10 +15,10 @@ use Rattle.dossier.specs.Records.{Opening, OpeningInRange, openingBytes,
 use Rattle.dossier.specs.Claims.{DueInRange}
 use Rattle.dossier.specs.Reader.{refused, accepted, Reader, _>>=_, _>>_, give, stands, endOfPiece}
 use Rattle.dossier.specs.JudgingRecords.{activityMark}
-use Rattle.dossier.specs.Judging.{opening, year, end, years, dossier, openingPiece, yearPiece}
+use Rattle.dossier.specs.Judging.{opening, year, years, dossier, openingPiece, yearPiece}
 use Rattle.wire.proofs.BytesLaws.{length-bytes, take-bytes}
 use Rattle.dossier.proofs.ReaderLaws.{bind-no, stands-bytes}
-use Rattle.dossier.proofs.Refusals.{first-fault, year-short, year-other, end-none-left, after-end, lone-byte, beyond-piece}
+use Rattle.dossier.proofs.Refusals.{year-short, year-other, end-none-left, after-end, lone-byte, beyond-piece}
 use Rattle.dossier.proofs.OpeningLaws.{opening-exact}
 use Rattle.dossier.proofs.RunLaws.{Over}
 use Rattle.dossier.proofs.YearLaws.{year-exact, year-begins}
@@ -90,14 +90,14 @@ module _ (o : Opening) (p : OpeningInRange o) (l : List Year) (q : YearsInRange 
   unfolding activityMark
   late-year h t =
       dossier-continues 0 (omega arith) _ (stands-bytes activityMark YR t (lit< tt)) _
-      (unfold years in first-fault end _ (bytes 2 YR ++ t) _ (end-none-left t))
+      (unfold years _>>_ in rw (end-none-left t))
 
   -- "bytes after EN" are 2
   pub beyond-end : length l ≡ o .head .years → (b : ℕ) (t : List ℕ) → dossier (so-far (bytes 2 EN ++ (b ∷ t))) ≡ refused 2
   unfolding activityMark
   beyond-end h b t =
       dossier-continues 0 (omega arith) _ (stands-bytes activityMark EN (b ∷ t) (lit< tt)) 2
-      (unfold years in first-fault end _ (bytes 2 EN ++ (b ∷ t)) 2 (after-end b t))
+      (unfold years _>>_ in rw (after-end b t))
 
 -- ---- after a piece: "a lone byte left over there is 1, any mark beyond the piece 2"
 piece-fault : {A : Type 0} (r : Reader A) (s : List ℕ) {a : A} {t : List ℕ} (n : ℕ) → r s ≡ accepted a t → endOfPiece t ≡ refused n → (r >>= λ a. endOfPiece >> give a) s ≡ refused n

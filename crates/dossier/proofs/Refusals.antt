@@ -12,15 +12,10 @@ use Rattle.activity.specs.declared.Activity.{Activity}
 use Rattle.wire.specs.Bytes.{number, bytes}
 use Rattle.dossier.specs.Marks.{YR, EN}
 use Rattle.dossier.specs.Records.{Due}
-use Rattle.dossier.specs.Reader.{refused, accepted, Reader, after, _>>_, refuse, mark, stands, is, upon, present, begin, nothing, endOfPiece}
+use Rattle.dossier.specs.Reader.{refused, accepted, after, _>>_, refuse, mark, stands, is, upon, present, begin, nothing, endOfPiece}
 use Rattle.dossier.specs.JudgingRecords.{activityMark}
 use Rattle.dossier.specs.Judging.{run, activities, noneLeft, yearRecords, yearLeft, year, end}
 use Rattle.dossier.proofs.ReaderLaws.{no, was, mark-yes, stands-bytes}
-
--- "the first fault counts"
-pub first-fault : {A B : Type 0} (r : Reader A) (q : Reader B) (s : List ℕ) (n : ℕ) → r s ≡ refused n → (r >> q) s ≡ refused n
-unfolding _>>_
-first-fault r q s n e = rw e
 
 -- "mark, .., bytes missing": 1 where the mark is cut, 2 where it is another, however few bytes follow, 1 where the record is cut
 module _ (m n : ℕ) (s : List ℕ) where
@@ -71,20 +66,20 @@ end-none-left t = rw (stands-bytes (is YR) YR t (lit< tt)) (none-left t)
 
 -- where a year is due: 1 where the bytes end before or inside its mark, 2 for any other mark, so for EN "before n years"
 pub year-short : (due : Due) (s : List ℕ) → length s < 2 → year due s ≡ refused 1
-unfolding year yearLeft yearRecords noneLeft
+unfolding year yearLeft yearRecords noneLeft _>>_
 year-short due s h = go (eqb (due .state .left) 0)
   where
     go : (b : Bool) → cond b noneLeft (yearRecords (due .state .year) (due .terms .start .0) (due .terms .beltstart .0)) s ≡ refused 1
-    go true = first-fault _ _ s 1 (begin-short YR 4 s h)
-    go false = first-fault _ _ s 1 (begin-short YR 4 s h)
+    go true = rw (begin-short YR 4 s h)
+    go false = rw (begin-short YR 4 s h)
 
 pub year-other : (due : Due) (s : List ℕ) → 2 ≤ length s → (number (take 2 s) ≡ YR → ⊥) → year due s ≡ refused 2
-unfolding year yearLeft yearRecords noneLeft
+unfolding year yearLeft yearRecords noneLeft _>>_
 year-other due s h f = go (eqb (due .state .left) 0)
   where
     go : (b : Bool) → cond b noneLeft (yearRecords (due .state .year) (due .terms .start .0) (due .terms .beltstart .0)) s ≡ refused 2
-    go true = first-fault _ _ s 2 (begin-other YR 4 s h f)
-    go false = first-fault _ _ s 2 (begin-other YR 4 s h f)
+    go true = rw (begin-other YR 4 s h f)
+    go false = rw (begin-other YR 4 s h f)
 
 -- ---- the ends: after EN any byte is 2; after a piece a lone byte is 1, more bytes are 2
 pub after-end : (b : ℕ) (t : List ℕ) → end (bytes 2 EN ++ (b ∷ t)) ≡ refused 2

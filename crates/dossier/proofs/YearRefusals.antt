@@ -13,12 +13,12 @@ use Rattle.activity.specs.Activity.{Within}
 use Rattle.wire.specs.Bytes.{number, bytes, joined}
 use Rattle.dossier.specs.Marks.{YR, CP}
 use Rattle.dossier.specs.Records.{Due}
-use Rattle.dossier.specs.Reader.{refused, Reader, _>>=_, _>>_, begin, field, within, equal}
+use Rattle.dossier.specs.Reader.{refused, Reader, _>>=_, _>>_, begin, field, equal}
 use Rattle.dossier.specs.JudgingRecords.{conversions}
 use Rattle.dossier.specs.Judging.{yearRecords, yearLeft, year}
 use Rattle.wire.proofs.BytesLaws.{length-bytes, take-bytes, drop-bytes}
 use Rattle.dossier.proofs.ReaderLaws.{begin-yes, within-yes, within-above, equal-yes}
-use Rattle.dossier.proofs.Refusals.{first-fault, begin-short, begin-other}
+use Rattle.dossier.proofs.Refusals.{begin-short, begin-other}
 
 pub days-le : (y : ℕ) → daysInYear y ≤ 366
 unfolding daysInYear
@@ -53,7 +53,7 @@ module _ (due : Due) (y days : ℕ) (t : List ℕ) (left : 1 ≤ due .state .lef
   pub days-wrong : y ≡ due .state .year → daysInYear y < days → year due (yearRecord y days t) ≡ refused 6
   unfolding year yearLeft yearRecords _>>_
   days-wrong e h =
-      rw (ne-eqb _ _ left-some) (year-fields _ y days t hy hd ∙ rw (equal-yes _ _ _ t e) (first-fault (within _ _ _ _) _ t 6 (within-above _ _ _ _ t (omega arith))))
+      rw (ne-eqb _ _ left-some) (year-fields _ y days t hy hd ∙ rw (equal-yes _ _ _ t e, within-above _ _ _ _ t h))
 
   year-begun : (n : ℕ) → y ≡ due .state .year → Within 1 days (daysInYear y) → begin CP 1152 t ≡ refused n → year due (yearRecord y days t) ≡ refused n
   unfolding year yearLeft yearRecords conversions _>>=_ _>>_

@@ -19,7 +19,8 @@ use Rattle.dossier.specs.Reader.{Judged, refused, accepted, _>>=_, _>>_, give, 
 use Rattle.dossier.specs.JudgingRecords.{areas, matrixUnder, head}
 use Rattle.dossier.specs.Judging.{opening, openingPiece}
 use Rattle.cursor.specs.Answers.{numberSays}
-use Rattle.cursor.proofs.AtLaws.{number-no, number-yes, bind-no, bind-yes, bind-bind, after-same}
+use Rattle.dossier.proofs.ReaderLaws.{bind-no, bind-yes, bind-bind, after-same}
+use Rattle.cursor.proofs.AtLaws.{number-no, number-yes}
 use Rattle.opening.specs.declared.OpeningAnswer.{OpeningAnswer}
 use Rattle.opening.specs.declared.Opened.{Opened}
 use Rattle.opening.specs.Answers.{amounts, noOpening, openedSays, openedInside, settledOpening, settledPiece, fromBelt, fromAreas}

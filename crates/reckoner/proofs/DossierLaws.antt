@@ -11,7 +11,8 @@ use Rattle.dossier.specs.Records.{Opening, termsOf, stateOf, settled, next}
 use Rattle.dossier.specs.Reader.{Judged, refused, accepted, after, _>>=_, _>>_, give}
 use Rattle.dossier.specs.Judging.{opening, year, end, years, dossier}
 use Rattle.cursor.specs.Answers.{numberSays}
-use Rattle.cursor.proofs.AtLaws.{number-no, number-yes, bind-yes}
+use Rattle.dossier.proofs.ReaderLaws.{bind-yes}
+use Rattle.cursor.proofs.AtLaws.{number-no, number-yes}
 use Rattle.opening.specs.declared.OpeningAnswer.{OpeningAnswer}
 use Rattle.opening.specs.declared.Opened.{Opened}
 use Rattle.opening.specs.Answers.{openedSays, settledOpening}

@@ -23,7 +23,8 @@ use Rattle.dossier.specs.Reader.{Judged, refused, accepted, _>>=_, give, begin}
 use Rattle.dossier.specs.JudgingRecords.{conversions}
 use Rattle.dossier.proofs.LoopLaws.{total-more, total-le}
 use Rattle.cursor.specs.Answers.{begunSays}
-use Rattle.cursor.proofs.AtLaws.{begun-no, begun-yes, reading, bind-no, bind-yes}
+use Rattle.dossier.proofs.ReaderLaws.{bind-no, bind-yes}
+use Rattle.cursor.proofs.AtLaws.{begun-no, begun-yes, reading}
 use Rattle.years.specs.Answers.{monitoredTable}
 
 -- the conversions from a place, and what the first k of them weigh

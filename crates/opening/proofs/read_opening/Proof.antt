@@ -3,7 +3,7 @@
 use borrow.Author.Needs.{needs}
 use mathlib.Core.Path.{_∙_}
 use Rattle.dossier.specs.JudgingRecords.{head}
-use Rattle.cursor.proofs.AtLaws.{bind-no, bind-yes}
+use Rattle.dossier.proofs.ReaderLaws.{bind-no, bind-yes}
 use Rattle.opening.specs.Answers.{fromAreas}
 use Rattle.opening.proofs.OpeningLaws.{opening-refused, settled-is}
 use Rattle.opening.proofs.read_opening.Statement.{statement}

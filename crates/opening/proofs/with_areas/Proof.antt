@@ -2,7 +2,7 @@
 -- Assumes nothing.
 use borrow.Author.Needs.{needs}
 use Rattle.dossier.specs.Reader.{_>>=_}
-use Rattle.cursor.proofs.AtLaws.{bind-no}
+use Rattle.dossier.proofs.ReaderLaws.{bind-no}
 use Rattle.opening.specs.Answers.{fromAreas}
 use Rattle.opening.proofs.OpeningLaws.{opening-refused}
 use Rattle.opening.proofs.with_areas.Statement.{statement}

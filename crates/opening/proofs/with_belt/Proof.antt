@@ -2,7 +2,7 @@
 -- Assumes nothing.
 use mathlib.Core.Path.{refl}
 use borrow.Author.Needs.{needs}
-use Rattle.cursor.proofs.AtLaws.{bind-no}
+use Rattle.dossier.proofs.ReaderLaws.{bind-no}
 use Rattle.opening.specs.Answers.{matrixOf, fromBelt}
 use Rattle.opening.proofs.OpeningLaws.{opening-refused, matrix-fault, opening-read, settled-terms, settled-state}
 use Rattle.opening.proofs.with_belt.Statement.{statement}
