@@ -1,17 +1,16 @@
 -- "The longest dossier is 65,062 bytes."
 -- Assumes nothing.
-use Prim.Native.Nat.{ℕ, zero, suc, _+_, _*_, _%_, _≤_}
+use Prim.Native.Nat.{ℕ, zero, suc, _+_, _*_, _≤_}
 use mathlib.Core.Path.{_≡_, refl, sym}
-use mathlib.Core.Bool.{Bool, true, false, cond}
 use mathlib.Core.Option.{Option, none, some}
 use mathlib.Core.List.{List, [], _∷_, map}
 use native.Mathlib.Omega.{arith}
-use lib.Dec.{eqb, lit≤}
+use lib.Dec.{lit≤}
 use lib.ListN.{length, length-append, replicate}
 use Rattle.arithmetic.specs.Sum.{listed}
 use Rattle.classes.specs.Classes.{deforestationProbabilities}
-use Rattle.classes.specs.Calendar.{daysInYear}
 use Rattle.classes.specs.Matrix.{optionOne, optionOneMatrix}
+use Rattle.classes.proofs.CalendarLaws.{days-range}
 use Rattle.classes.proofs.MatrixLaws.{option-one-rows}
 use Rattle.activity.specs.declared.Activity.{Activity}
 use Rattle.activity.specs.declared.Activity.the-variants.{Vehicles}
@@ -127,16 +126,6 @@ all-alike : (n : ℕ) → ActivitiesInRange (replicate n (Vehicles 1 0 0 0))
 all-alike zero = tt
 all-alike (suc n) = (omega arith, all-alike n)
 
-days-some : (y : ℕ) → 1 ≤ daysInYear y
-unfolding daysInYear
-days-some y = go (eqb (y % 400) 0) (eqb (y % 100) 0) (eqb (y % 4) 0)
-  where
-    go : (a b d : Bool) → 1 ≤ cond a 366 (cond b 365 (cond d 366 365))
-    go true b d = lit≤ tt
-    go false true d = lit≤ tt
-    go false false true = lit≤ tt
-    go false false false = lit≤ tt
-
 longest-years : (k : ℕ) (due : Due) → due .state .left ≡ k → due .terms .start .0 ≡ 1 → due .terms .beltstart .0 ≡ 0
     → YearsInRange due (longestYears k (due .state .year))
 unfolding next afterYear afterFigures total
@@ -145,7 +134,7 @@ longest-years (suc k) due l p b = (
   record {
     left = omega arith;
     year = refl;
-    days = omega (arith, days-some (due .state .year));
+    days = omega (arith, days-range (due .state .year));
     conversions = record { count = refl; totals = sym p };
     beltConversions = record { count = refl; totals = sym b };
     count = lit≤ tt;

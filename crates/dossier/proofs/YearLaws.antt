@@ -9,6 +9,7 @@ use borrow.Author.Tests.{eqb-true, eqb-false, ne-eqb}
 use lib.Dec.{eqb, lit<}
 use lib.ListN.{length, length-append}
 use Rattle.classes.specs.Calendar.{daysInYear}
+use Rattle.classes.proofs.CalendarLaws.{days-range}
 use Rattle.figures.specs.Year.{Year}
 use Rattle.wire.specs.Bytes.{Bytes, bytes, joined}
 use Rattle.dossier.specs.Marks.{YR, CP, CD}
@@ -20,7 +21,7 @@ use Rattle.dossier.specs.Judging.{activities, noneLeft, yearRecords, yea
 use Rattle.wire.proofs.BytesLaws.{length-bytes}
 use Rattle.dossier.proofs.ReaderLaws.{no, step, bind-only, then-only, was, begin-only, within-yes, equal-yes, equal-only, stands-bytes}
 use Rattle.dossier.proofs.Refusals.{sixty-first, none-left}
-use Rattle.dossier.proofs.YearRefusals.{days-le, yearRecord, year-fields}
+use Rattle.dossier.proofs.YearRefusals.{yearRecord, year-fields}
 use Rattle.dossier.proofs.Exact.{Exact, begin-first, field-then, within-then, equal-then}
 use Rattle.dossier.proofs.ExactParts.{Any, sub-then, last-then}
 use Rattle.dossier.proofs.RecordLaws.{conversions-exact}
@@ -35,9 +36,9 @@ unfolding yearRecords yearBytes joined
 year-due-exact due h left =
     begin-first _ _ (lit< tt) (λ y t c p. simp (length-append, length-bytes) (omega arith))
     (field-then _ (λ (y : Year). y .year) (λ y t c p. omega arith) (λ v lv.
-    field-then _ (λ (y : Year). y .operatingDays) (λ y t c p. omega (arith, days-le (y .year))) (λ d ld.
+    field-then _ (λ (y : Year). y .operatingDays) (λ y t c p. omega (arith, days-range (y .year))) (λ d ld.
     equal-then _ _ _ (λ y t c p. omega arith) (λ ev.
-    within-then _ _ _ _ (λ y t c p. let e = ap daysInYear (c .0 .1) in omega (arith, days-le v)) (λ rd.
+    within-then _ _ _ _ (λ y t c p. let e = ap daysInYear (c .0 .1) in omega (arith, days-range v)) (λ rd.
     sub-then (λ (y : Year). y .conversions) (conversions-exact CP _ (lit< tt) (h .start)) (λ y t c p. p .0 .conversions) (λ xs u xr.
     sub-then (λ (y : Year). y .beltConversions) (conversions-exact CD _ (lit< tt) (h .beltstart)) (λ y t c p. p .0 .beltConversions) (λ ys u yr.
     last-then (λ (y : Year). y .activities) (λ l. record { year = v; operatingDays = d; conversions = xs; beltConversions = ys; activities = l }) activities-exact
@@ -106,7 +107,7 @@ year-sixty-one due h y p n s m =
     let b = conversionsBytes CD (y .beltConversions) ++ r in
     let c = conversionsBytes CP (y .conversions) ++ b in
     let z : due .state .left ≡ 0 → ⊥ = λ z. omega arith in
-    let d : y .operatingDays < 65536 = omega (arith, days-le (y .year)) in
+    let d : y .operatingDays < 65536 = omega (arith, days-range (y .year)) in
     let e : yearBytes y ++ s ≡ yearRecord (y .year) (y .operatingDays) c = unfold yearBytes joined runBytes in simp (append-assoc, append-nil) in
     let f : activities [] r ≡ refused 9 = activities-continue [] (y .activities) s (omega arith) (p .activities) ∙ sixty-first (y .activities) s (omega arith) m in
     let v : y .year < 65536 = omega arith in

@@ -1,12 +1,11 @@
 -- The number of a refusal right after YR: year, d, and a missing table ("Causes and numbers", "Slips seen in the old product").
 -- Assumes nothing.
-use Prim.Native.Nat.{ℕ, _%_, _≤_, _<_}
+use Prim.Native.Nat.{ℕ, _≤_, _<_}
 use mathlib.Core.Path.{_≡_, _∙_}
-use mathlib.Core.Bool.{Bool, true, false, cond}
 use mathlib.Core.List.{List, [], _∷_, _++_, append-nil}
 use native.Mathlib.Omega.{arith}
 use borrow.Author.Tests.{ne-eqb}
-use lib.Dec.{eqb, lit<, lit≤}
+use lib.Dec.{lit<}
 use lib.ListN.{length, take, length-append}
 use Rattle.classes.specs.Calendar.{daysInYear}
 use Rattle.activity.specs.Activity.{Within}
@@ -19,16 +18,6 @@ use Rattle.dossier.specs.Judging.{yearRecords, yearLeft, year}
 use Rattle.wire.proofs.BytesLaws.{length-bytes, take-bytes, drop-bytes}
 use Rattle.dossier.proofs.ReaderLaws.{begin-yes, within-yes, within-above, equal-yes}
 use Rattle.dossier.proofs.Refusals.{begin-short, begin-other}
-
-pub days-le : (y : ℕ) → daysInYear y ≤ 366
-unfolding daysInYear
-days-le y = go (eqb (y % 400) 0) (eqb (y % 100) 0) (eqb (y % 4) 0)
-  where
-    go : (a b d : Bool) → cond a 366 (cond b 365 (cond d 366 365)) ≤ 366
-    go true b d = lit≤ tt
-    go false true d = lit≤ tt
-    go false false true = lit≤ tt
-    go false false false = lit≤ tt
 
 abbrev pub yearRecord : ℕ → ℕ → List ℕ → List ℕ
 yearRecord y days t = joined (bytes 2 YR ∷ bytes 2 y ∷ bytes 2 days ∷ t ∷ [])
