@@ -25,13 +25,13 @@ use Rattle.activity.specs.Activity.{
   activityEmissions,
 }
 
--- ---- no factor of a field in range is above the greatest, by computed tests
-factor-le : (f : ℕ → ℕ) (greatest : ℕ) → T (all 4 (λ x. leb (f x) greatest)) → (x : ℕ) → Within 1 x 3 → f x ≤ greatest
-factor-le f greatest t x h = leb→le (f x) greatest (all-at 4 (λ x. leb (f x) greatest) t x (omega arith))
+-- ---- no factor of a kind from 1 to 3 is above the greatest, by computed tests
+kind-le : (f : ℕ → ℕ) (greatest : ℕ) → T (all 4 (λ x. leb (f x) greatest)) → (x : ℕ) → Within 1 x 3 → f x ≤ greatest
+kind-le f greatest t x h = leb→le (f x) greatest (all-at 4 (λ x. leb (f x) greatest) t x (omega arith))
 
 n2oShare-le : (source crop : ℕ) → Within 1 source 3 → Within 1 crop 2 → n2oShare source crop ≤ 1425
 unfolding all
-n2oShare-le source crop h k = factor-le (λ s. n2oShare s crop) 1425 (all-at 3 (λ c. all 4 (λ s. leb (n2oShare s c) 1425)) tt crop (omega arith)) source h
+n2oShare-le source crop h k = kind-le (λ s. n2oShare s crop) 1425 (all-at 3 (λ c. all 4 (λ s. leb (n2oShare s c) 1425)) tt crop (omega arith)) source h
 
 -- ---- a factor within its bound keeps the grams within theirs
 factor-grams-le : {grams factor greatest divisor : ℕ} → grams ≤ 1000000000000 → factor ≤ greatest → greatest ≤ 4 * divisor → 0 < divisor
@@ -51,14 +51,14 @@ denominator-pos (Lime material grams) = lit≤ tt
 
 pub grams-le : (a : Activity) → ActivityInRange a → activityGrams a ≤ greatestRecord
 unfolding activityGrams numerator denominator all
-grams-le (Fuel kind grams) h = factor-grams-le (omega arith) (factor-le fuelFactor 318630 tt kind (h .0)) (lit≤ tt) (lit≤ tt)
-grams-le (Vehicles kind count average rate) h = factor-grams-le (omega arith) (factor-le fuelFactor 318630 tt kind (h .0)) (lit≤ tt) (lit≤ tt)
+grams-le (Fuel kind grams) h = factor-grams-le (omega arith) (kind-le fuelFactor 318630 tt kind (h .0)) (lit≤ tt) (lit≤ tt)
+grams-le (Vehicles kind count average rate) h = factor-grams-le (omega arith) (kind-le fuelFactor 318630 tt kind (h .0)) (lit≤ tt) (lit≤ tt)
 grams-le (Nitrogen source crop grams content) h =
     let g : grams ≤ 10000000000 = omega arith in
     let c : content ≤ 10000 = omega arith in
     rw (mul-assoc (grams * content) (n2oShare source crop) 3278)
     (nitrogen-le (omega (arith, mul-le-mul g c)) (omega (arith, n2oShare-le source crop (h .0) (h .1 .0))))
-grams-le (Lime material grams) h = factor-grams-le (omega arith) (factor-le limeFactor 220 tt material (h .0)) (lit≤ tt) (lit≤ tt)
+grams-le (Lime material grams) h = factor-grams-le (omega arith) (kind-le limeFactor 220 tt material (h .0)) (lit≤ tt) (lit≤ tt)
 
 pub emissions-le : (records : List Activity) → ActivitiesInRange records → activityEmissions records ≤ greatestRecord * length records
 unfolding activityEmissions

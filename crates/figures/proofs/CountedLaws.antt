@@ -3,6 +3,7 @@
 use mathlib.Core.Path.{_≡_}
 use mathlib.Core.Bool.{Bool, true, false, cond}
 use Prim.Native.Nat.{ℕ, _≤_}
+use native.Mathlib.Nat.{le-trans}
 use native.Mathlib.Omega.{arith}
 use lib.Dec.{eqb}
 use lib.ListN.{getD}
@@ -10,9 +11,8 @@ use mathlib.Core.List.{List}
 use Rattle.classes.specs.Classes.{NF, emissionFactor}
 use Rattle.classes.specs.Matrix.{entry, tableOf}
 use Rattle.classes.proofs.MatrixLaws.{entry-tableOf, tableOf-cong}
-use Rattle.classes.proofs.FactorLaws.{factor-le}
+use Rattle.classes.proofs.FactorLaws.{factor-le, table-le}
 use Rattle.projection.specs.Ranges.{FactorsFit}
-use Rattle.projection.proofs.ProjectionLaws.{table-fits}
 use Rattle.figures.specs.Figures.{countedFactor}
 
 -- those of a table of factors are those of its factors
@@ -20,26 +20,23 @@ pub counted-table : (option : ℕ) (factor : ℕ → ℕ → ℕ) → tableOf (c
 unfolding countedFactor
 counted-table option factor = tableOf-cong (countedFactor option (entry (tableOf factor))) (countedFactor option factor) (λ i j hi hj. rw (entry-tableOf factor i j hi hj))
 
--- ---- ranges: none is above the greatest factor
-pub counted-le : (option : ℕ) (factor : ℕ → ℕ → ℕ) (g : ℕ) → ((i j : ℕ) → factor i j ≤ g) → (i j : ℕ) → countedFactor option factor i j ≤ g
+-- ---- ranges: none is above the factor itself
+pub counted-le : (option : ℕ) (factor : ℕ → ℕ → ℕ) (i j : ℕ) → countedFactor option factor i j ≤ factor i j
 unfolding countedFactor
-counted-le option factor g h i j = pick (eqb option 1) (eqb j NF)
+counted-le option factor i j = pick (eqb option 1) (eqb j NF)
   where
-    pick : (a b : Bool) → cond a (cond b (factor i j) 0) (factor i j) ≤ g
-    pick true true = h i j
+    pick : (a b : Bool) → cond a (cond b (factor i j) 0) (factor i j) ≤ factor i j
+    pick true true = omega arith
     pick true false = omega arith
-    pick false b = h i j
+    pick false b = omega arith
 
 -- by stocks of 16 bits
 module _ (stocks : List ℕ) (fit : (i : ℕ) → getD stocks i 0 ≤ 65535) where
-  pub small-factor : (i j : ℕ) → emissionFactor stocks i j ≤ 65535
-  small-factor = factor-le stocks 65535 fit
-
   pub small-counted : (option i j : ℕ) → countedFactor option (emissionFactor stocks) i j ≤ 65535
-  small-counted option = counted-le option (emissionFactor stocks) 65535 small-factor
+  small-counted option i j = le-trans (counted-le option (emissionFactor stocks) i j) (factor-le stocks 65535 fit i j)
 
   pub factors-fit : FactorsFit (tableOf (emissionFactor stocks))
-  factors-fit = table-fits (emissionFactor stocks) small-factor
+  factors-fit k = omega (arith, table-le (emissionFactor stocks) 65535 (factor-le stocks 65535 fit) k)
 
   pub counted-fit : (option : ℕ) → FactorsFit (tableOf (countedFactor option (emissionFactor stocks)))
-  counted-fit option = table-fits (countedFactor option (emissionFactor stocks)) (small-counted option)
+  counted-fit option k = omega (arith, table-le (countedFactor option (emissionFactor stocks)) 65535 (small-counted option) k)

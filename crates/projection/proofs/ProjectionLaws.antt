@@ -2,15 +2,14 @@
 -- Assumes nothing.
 use mathlib.Core.Path.{_≡_, ap, _∙_}
 use mathlib.Core.List.{List}
-use Prim.Native.Nat.{ℕ, _+_, _-_, _*_, _≤_, _<_}
+use Prim.Native.Nat.{ℕ, _+_, _*_, _≤_, _<_}
 use native.Mathlib.Nat.{zero-lt-suc, le-trans, mul-le-mul-left, mul-le-mul-right, mul-comm, le-of-eq, div-le-of-le-mul}
 use native.Mathlib.Omega.{arith}
 use Rattle.arithmetic.specs.Sum.{sum}
 use Rattle.arithmetic.proofs.SumLaws.{sum-cong, sum-le, sum-mul, sum-part, sum-next, sum-swap, term-le, getD-listed}
 use Rattle.classes.specs.declared.AreaUnits.{AreaUnits}
 use Rattle.classes.specs.Classes.{classes}
-use Rattle.classes.specs.Matrix.{entry, tableOf, million}
-use Rattle.classes.proofs.FactorLaws.{table-le}
+use Rattle.classes.specs.Matrix.{entry, million}
 use Rattle.projection.specs.Projection.{area, areaTotal, flow, nextArea, nextAreas, projectedCarbon, lostArea}
 use Rattle.projection.specs.Inflow.{inflowCarbon}
 use Rattle.projection.specs.Ranges.{RowsWithin, FactorsFit}
@@ -35,9 +34,6 @@ carbon-columns factor areas matrix = sum-swap classes classes (λ j i. flow area
 pub fitting-le : (factors : List ℕ) → FactorsFit factors → (i j : ℕ) → entry factors i j ≤ 65535
 fitting-le factors fit i j = omega (arith, fit (12 * i + j))
 
-pub table-fits : (factor : ℕ → ℕ → ℕ) → ((i j : ℕ) → factor i j ≤ 65535) → FactorsFit (tableOf factor)
-table-fits factor h k = omega (arith, table-le factor 65535 h k)
-
 module _ (areas : List AreaUnits) (matrix : List ℕ) (rows : RowsWithin matrix) where
   -- the areas after the year and what rounding lost make up the areas before it
   pub areas-kept : areaTotal (nextAreas areas matrix) + lostArea areas matrix ≡ areaTotal areas
@@ -59,10 +55,13 @@ module _ (areas : List AreaUnits) (matrix : List ℕ) (rows : RowsWithin matrix)
   inflow-next i j hi hj = omega (arith, sum-next i (λ i. flow areas matrix i j), inflow-le (i + 1) j (omega arith) hj)
 
   module _ (factor : ℕ → ℕ → ℕ) (g : ℕ) (factor-le : (i j : ℕ) → factor i j ≤ g) where
-    pub inflow-carbon-le : (n j : ℕ) → n ≤ classes → j < classes → sum n (λ i. flow areas matrix i j * factor i j) ≤ areaTotal areas * g
-    inflow-carbon-le n j hn hj =
+    column-le : (n j : ℕ) → sum n (λ i. flow areas matrix i j * factor i j) ≤ sum n (λ i. flow areas matrix i j) * g
+    column-le n j =
         le-trans (sum-le n (λ i. flow areas matrix i j * factor i j) (λ i. flow areas matrix i j * g) (λ i h. mul-le-mul-left (flow areas matrix i j) (factor-le i j)))
-        (le-trans (le-of-eq (sum-mul n (λ i. flow areas matrix i j) g)) (mul-le-mul-right g (inflow-le n j hn hj)))
+        (le-of-eq (sum-mul n (λ i. flow areas matrix i j) g))
+
+    pub inflow-carbon-le : (n j : ℕ) → n ≤ classes → j < classes → sum n (λ i. flow areas matrix i j * factor i j) ≤ areaTotal areas * g
+    inflow-carbon-le n j hn hj = le-trans (column-le n j) (mul-le-mul-right g (inflow-le n j hn hj))
 
     pub inflow-carbon-next : (i j : ℕ) → i < classes → j < classes → sum i (λ i. flow areas matrix i j * factor i j) + flow areas matrix i j * factor i j ≤ areaTotal areas * g
     inflow-carbon-next i j hi hj = omega (arith, sum-next i (λ i. flow areas matrix i j * factor i j), inflow-carbon-le (i + 1) j (omega arith) hj)
@@ -72,12 +71,8 @@ module _ (areas : List AreaUnits) (matrix : List ℕ) (rows : RowsWithin matrix)
     unfolding inflowCarbon nextArea
     columns-le n hn =
         le-trans (sum-part n classes (inflowCarbon factor areas matrix) hn)
-        (le-trans (sum-le classes (inflowCarbon factor areas matrix) (λ j. nextArea areas matrix j * g) (λ j h. column j))
+        (le-trans (sum-le classes (inflowCarbon factor areas matrix) (λ j. nextArea areas matrix j * g) (λ j h. column-le classes j))
         (le-trans (le-of-eq (sum-mul classes (nextArea areas matrix) g)) (mul-le-mul-right g (omega (arith, next-total areas matrix, areas-kept)))))
-      where
-        column : (j : ℕ) → sum classes (λ i. flow areas matrix i j * factor i j) ≤ sum classes (λ i. flow areas matrix i j) * g
-        column j = le-trans (sum-le classes (λ i. flow areas matrix i j * factor i j) (λ i. flow areas matrix i j * g) (λ i h. mul-le-mul-left (flow areas matrix i j) (factor-le i j)))
-            (le-of-eq (sum-mul classes (λ i. flow areas matrix i j) g))
 
     pub projected-carbon-le : projectedCarbon factor areas matrix ≤ areaTotal areas * g
     projected-carbon-le = rw (← carbon-columns factor areas matrix) (columns-le classes (omega arith))

@@ -6,6 +6,7 @@ use native.Mathlib.Omega.{arith}
 use lib.ListN.{getD}
 use Rattle.classes.specs.Classes.{emissionFactor}
 use Rattle.classes.specs.Ranges.{greatestEmissions}
+use Rattle.classes.proofs.FactorLaws.{factor-le}
 use Rattle.projection.specs.declared.Region.{Region}
 use Rattle.projection.specs.Ranges.{SmallArea, SmallRegion, RowsWithin}
 use Rattle.activity.proofs.ActivityLaws.{emissions-le}
@@ -14,7 +15,7 @@ use Rattle.figures.specs.Year.{Year}
 use Rattle.figures.specs.Figures.{countedFactor}
 use Rattle.figures.specs.Ranges.{SmallTable}
 use Rattle.figures.specs.Reckoning.{regionReference, tableEmissions, yearFigures}
-use Rattle.figures.proofs.CountedLaws.{small-factor, small-counted}
+use Rattle.figures.proofs.CountedLaws.{small-counted}
 use Rattle.figures.proofs.FiguresLaws.{FiguresSmall, figures-small, projected-small, calendar-days, reference-small, emissions-small, monitored-small}
 use Rattle.dossier.specs.Records.{Due, ConversionsInRange, YearInRange}
 use Rattle.dossier.specs.Claims.{DueInRange}
@@ -25,7 +26,7 @@ module _ (t : Terms) (stocks : (i : ℕ) → getD (t .stocks) i 0 ≤ 65535) (ro
   reference-range : (region : Region) → SmallRegion region → regionReference t y region ≤ greatestEmissions
   unfolding regionReference
   reference-range region r =
-      reference-small (projected-small region (t .matrix) (emissionFactor (t .stocks)) r rows (small-factor (t .stocks) stocks)) (calendar-days (y .operatingDays) (y .year) (h .days .most))
+      reference-small (projected-small region (t .matrix) (emissionFactor (t .stocks)) r rows (factor-le (t .stocks) 65535 stocks)) (calendar-days (y .operatingDays) (y .year) (h .days .most))
 
   table-range : (sum : ℕ) (conversions : List ℕ) → SmallArea sum → ConversionsInRange sum conversions → tableEmissions t conversions ≤ greatestEmissions
   unfolding tableEmissions
