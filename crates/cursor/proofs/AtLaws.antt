@@ -5,7 +5,6 @@ use mathlib.Core.Path.{_≡_, refl}
 use mathlib.Core.Bool.{Bool, true, false, cond}
 use mathlib.Core.List.{List}
 use native.Mathlib.Nat.{add-assoc}
-use native.Mathlib.Omega.{arith}
 use lib.Dec.{eqb}
 use lib.ListN.{length, drop, length-drop}
 use lib.Seq.{drop-drop}
@@ -72,18 +71,6 @@ pub stands-here : (kind : ℕ → Bool) (s : List ℕ) (at x : ℕ) → 2 ≤ le
 unfolding stands fieldAt
 stands-here kind s at x h e = let k : 2 ≤ length (drop at s) = rw length-drop h in simp (le-ltb _ _ k, ← e)
 
--- ---- a value made of what was read
-pub record Made {A B : Type 0} (j : Judged A) (f : A → B) (b : B) (u : List ℕ) : Type 0 where
-  pub value : A
-  pub judged : accepted value u ≡ j
-  pub made : b ≡ f value
-
-pub made-no : {A B : Type 0} (j : Judged A) (f : A → B) (n : ℕ) → refused n ≡ after j (λ a. give (f a)) → refused n ≡ j
-unfolding give
-made-no (refused m) f n e = let k : n ≡ m = cc in rw k
-made-no (accepted a v) f n e = let z : _≡_ {A = ℕ} 0 1 = cc in absurd (omega arith)
-
-pub made-yes : {A B : Type 0} (j : Judged A) (f : A → B) (b : B) (u : List ℕ) → accepted b u ≡ after j (λ a. give (f a)) → Made j f b u
-unfolding give
-made-yes (refused m) f b u e = let z : _≡_ {A = ℕ} 0 1 = cc in absurd (omega arith)
-made-yes (accepted a v) f b u e = let k : u ≡ v = cc in let l : b ≡ f a = cc in record { value = a; judged = rw k; made = l }
+-- ---- an answer that was told: what the judgement is by it, and what holds of it
+pub told : {X A : Type 0} (says : X → Judged A) (holds : X → Type 0) {r x : X} {j : Judged A} → r ≡ x → (says r ≡ j) × holds r → (says x ≡ j) × holds x
+told says holds e w = rw e at w

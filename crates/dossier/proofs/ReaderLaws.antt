@@ -10,7 +10,7 @@ use lib.Dec.{ltb, eqb}
 use lib.ListN.{length, take, drop, length-append}
 use Rattle.activity.specs.Activity.{Within}
 use Rattle.wire.specs.Bytes.{Bytes, number, bytes}
-use Rattle.dossier.specs.Reader.{Judged, refused, accepted, Reader, after, _>>=_, _>>_, mark, begin, stands, present, outside, within, equal, nothing}
+use Rattle.dossier.specs.Reader.{Judged, refused, accepted, Reader, after, _>>=_, _>>_, give, mark, begin, stands, present, outside, within, equal, nothing}
 use Rattle.wire.proofs.BytesLaws.{length-bytes, split, take-bytes, drop-bytes}
 
 -- no refusal is an acceptance, and no acceptance a refusal
@@ -55,6 +55,22 @@ after-same (accepted a u) k l h = h a u
 
 pub was : {A : Type 0} {a b : A} {s t : List ℕ} → accepted a s ≡ accepted b t → (a ≡ b) × (s ≡ t)
 was e = (cc, cc)
+
+-- a value made of what was read
+pub record Made {A B : Type 0} (j : Judged A) (f : A → B) (b : B) (u : List ℕ) : Type 0 where
+  pub value : A
+  pub judged : accepted value u ≡ j
+  pub made : b ≡ f value
+
+pub made-no : {A B : Type 0} (j : Judged A) (f : A → B) (n : ℕ) → refused n ≡ after j (λ a. give (f a)) → refused n ≡ j
+unfolding give
+made-no (refused m) f n e = let k : n ≡ m = cc in rw k
+made-no (accepted a v) f n e = no _ _ _ e
+
+pub made-yes : {A B : Type 0} (j : Judged A) (f : A → B) (b : B) (u : List ℕ) → accepted b u ≡ after j (λ a. give (f a)) → Made j f b u
+unfolding give
+made-yes (refused m) f b u e = never _ _ _ e
+made-yes (accepted a v) f b u e = record { value = a; judged = rw (was e .1); made = was e .0 }
 
 pub cond-refused : {A : Type 0} (x : Bool) (n : ℕ) (j : Judged A) {a : A} {t : List ℕ} → cond x (refused n) j ≡ accepted a t → (x ≡ false) × (j ≡ accepted a t)
 cond-refused true n j e = no _ _ _ e

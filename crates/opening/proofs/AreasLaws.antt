@@ -9,17 +9,13 @@ use lib.ListN.{length, take, drop, set}
 use lib.Seq.{take-suc-set}
 use Rattle.wire.specs.Bytes.{numbers, total}
 use Rattle.classes.specs.declared.AreaUnits.{AreaUnits}
-use Rattle.dossier.specs.Reader.{Judged, refused, accepted, _>>_, give, begin, within}
+use Rattle.dossier.specs.Reader.{refused, accepted, _>>_, give, begin, within}
 use Rattle.dossier.specs.JudgingRecords.{areas}
 use Rattle.dossier.proofs.ReaderLaws.{within-yes, within-above, within-below}
 use Rattle.dossier.proofs.LoopLaws.{total-le}
 use Rattle.cursor.specs.Answers.{begunSays}
 use Rattle.cursor.proofs.AtLaws.{begun-no, begun-yes, fields-is}
-use Rattle.opening.specs.declared.Areas.{Areas}
-use Rattle.opening.specs.Answers.{amounts, noAreas, areasSays, areasInside}
-
-pub areas-refused : (s : List ℕ) (r : Areas) (n : ℕ) (j : Judged (List ℕ)) → r ≡ noAreas n → refused n ≡ j → (areasSays s r ≡ j) × areasInside s r
-areas-refused s r n j e q = rw e (q, tt)
+use Rattle.opening.specs.Answers.{amounts}
 
 -- one area more is stored
 pub amounts-next : (l : List AreaUnits) (i : ℕ) (a : AreaUnits) → i < length l → amounts (take (suc i) (set l i a)) ≡ amounts (take i l) ++ (a .0 ∷ [])

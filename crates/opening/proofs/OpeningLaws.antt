@@ -14,8 +14,8 @@ use Rattle.projection.specs.Projection.{openedRegion}
 use Rattle.figures.specs.declared.Terms.{Terms}
 use Rattle.figures.specs.declared.State.{State}
 use Rattle.dossier.specs.Marks.{DA}
-use Rattle.dossier.specs.Records.{Head, Opening, units, matrixInUse, termsOf, stateOf, Due, settled}
-use Rattle.dossier.specs.Reader.{Judged, refused, accepted, _>>=_, _>>_, give, endOfPiece}
+use Rattle.dossier.specs.Records.{Head, Opening, units, matrixInUse, termsOf, stateOf, settled}
+use Rattle.dossier.specs.Reader.{refused, accepted, _>>=_, _>>_, give, endOfPiece}
 use Rattle.dossier.specs.JudgingRecords.{areas, matrixUnder, head}
 use Rattle.dossier.specs.Judging.{opening, openingPiece}
 use Rattle.cursor.specs.Answers.{numberSays}
@@ -23,10 +23,7 @@ use Rattle.dossier.proofs.ReaderLaws.{bind-no, bind-yes, bind-bind, after-same}
 use Rattle.cursor.proofs.AtLaws.{number-no, number-yes}
 use Rattle.opening.specs.declared.OpeningAnswer.{OpeningAnswer}
 use Rattle.opening.specs.declared.Opened.{Opened}
-use Rattle.opening.specs.Answers.{amounts, noOpening, openedSays, openedInside, settledOpening, settledPiece, fromBelt, fromAreas}
-
-pub opening-refused : (s : List ℕ) (r : Opened) (n : ℕ) (j : Judged Due) → r ≡ noOpening n → refused n ≡ j → (openedSays s r ≡ j) × openedInside s r
-opening-refused s r n j e q = rw e (q, refl)
+use Rattle.opening.specs.Answers.{amounts, openedSays, settledOpening, settledPiece, fromBelt, fromAreas}
 
 pub units-amounts : (xs : List AreaUnits) → units (amounts xs) ≡ xs
 units-amounts [] = refl

@@ -22,8 +22,7 @@ use Rattle.dossier.specs.Records.{Due}
 use Rattle.dossier.specs.Reader.{refused, accepted, after, _>>=_, give}
 use Rattle.dossier.specs.Judging.{noneLeft, yearRecords, yearLeft, year}
 use Rattle.dossier.proofs.YearLaws.{none-left-only, year-exact}
-use Rattle.dossier.proofs.ReaderLaws.{bind-no, bind-yes}
-use Rattle.cursor.proofs.AtLaws.{Made, made-no, made-yes}
+use Rattle.dossier.proofs.ReaderLaws.{bind-no, bind-yes, Made, made-no, made-yes}
 use Rattle.reckoning.specs.declared.Advanced.{Advanced}
 use Rattle.reckoning.specs.declared.StepAnswer.{StepAnswer}
 use Rattle.reckoning.specs.declared.Stepped.{Stepped}

@@ -10,11 +10,11 @@ use Rattle.wire.specs.Bytes.{Bytes}
 use Rattle.figures.specs.declared.Terms.{Terms}
 use Rattle.figures.specs.declared.State.{State}
 use Rattle.dossier.specs.Records.{Opening, Due, settled}
-use Rattle.dossier.specs.Reader.{accepted, _>>=_, _>>_, give, mark, begin}
+use Rattle.dossier.specs.Reader.{_>>=_, _>>_, mark, begin}
 use Rattle.dossier.specs.JudgingRecords.{head}
 use Rattle.dossier.specs.Judging.{opening, openingPiece}
 use Rattle.dossier.proofs.OpeningLaws.{opening-exact}
-use Rattle.cursor.proofs.AtLaws.{Made, made-no, made-yes}
+use Rattle.dossier.proofs.ReaderLaws.{Made, made-no, made-yes}
 use Rattle.opening.specs.declared.OpeningAnswer.{OpeningAnswer}
 use Rattle.opening.specs.declared.Opened.{Opened}
 use Rattle.opening.specs.Answers.{openedSays, settledOpening, settledPiece}

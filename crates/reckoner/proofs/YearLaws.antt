@@ -8,8 +8,8 @@ use Rattle.wire.specs.Bytes.{Bytes}
 use Rattle.dossier.specs.Reader.{refused, _>>=_, _>>_, give, endOfPiece}
 use Rattle.dossier.specs.Judging.{year, yearPiece}
 use Rattle.cursor.specs.Answers.{numberSays}
-use Rattle.dossier.proofs.ReaderLaws.{bind-no, bind-yes}
-use Rattle.cursor.proofs.AtLaws.{number-no, number-yes, Made, made-no, made-yes}
+use Rattle.dossier.proofs.ReaderLaws.{bind-no, bind-yes, Made, made-no, made-yes}
+use Rattle.cursor.proofs.AtLaws.{number-no, number-yes}
 use Rattle.reckoning.specs.declared.StepAnswer.{StepAnswer}
 use Rattle.reckoner.specs.declared.Ledger.{Ledger}
 use Rattle.reckoner.specs.declared.Answer.{Answer}

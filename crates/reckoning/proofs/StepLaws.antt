@@ -1,17 +1,11 @@
--- A step over the bytes: what the answers of its calls said, and the step in terms of the year that was read.
+-- A step over the bytes, in terms of the year that was read.
 -- Assumes nothing.
-use mathlib.Core.Path.{_≡_, refl, _∙_, ap}
+use mathlib.Core.Path.{_≡_, refl}
 use mathlib.Core.List.{List}
-use Prim.Native.Nat.{ℕ, _≤_, _<_}
-use lib.Signed.{mag}
-use lib.ListN.{length, drop}
+use Prim.Native.Nat.{ℕ, _<_}
 use Rattle.arithmetic.proofs.SumLaws.{sum2-cong}
-use Rattle.classes.specs.declared.CarbonUnits.{CarbonUnits}
-use Rattle.classes.specs.declared.Grams.{Grams}
 use Rattle.classes.specs.Classes.{classes, emissionFactor}
 use Rattle.classes.specs.Matrix.{entry, tableOf}
-use Rattle.classes.specs.Calendar.{daysInYear}
-use Rattle.classes.specs.Ranges.{greatestActivity}
 use Rattle.classes.proofs.MatrixLaws.{entry-tableOf}
 use Rattle.projection.specs.declared.Region.{Region}
 use Rattle.projection.specs.Projection.{projectedCarbon}
@@ -19,37 +13,14 @@ use Rattle.figures.specs.declared.Terms.{Terms}
 use Rattle.figures.specs.declared.State.{State}
 use Rattle.figures.specs.Year.{Year}
 use Rattle.figures.specs.Figures.{monitoredCarbon, countedFactor}
-use Rattle.figures.specs.Ranges.{SmallCarbon}
 use Rattle.figures.specs.Reckoning.{regionReference, tableEmissions, yearFigures, afterYear}
 use Rattle.dossier.specs.Reader.{Judged, refused, accepted, after, _>>=_, give}
-use Rattle.dossier.specs.Judging.{yearLeft, year}
+use Rattle.dossier.specs.Judging.{year}
 use Rattle.dossier.proofs.ReaderLaws.{bind-no, bind-yes}
 use Rattle.dossier.proofs.YearLaws.{year-is-due}
-use Rattle.years.specs.declared.YearAnswer.{YearAnswer}
-use Rattle.years.specs.Answers.{Summary, summary, summarizedYear, yearSays, tablesInside, yearFits}
+use Rattle.years.specs.Answers.{Summary, summary, summarizedYear}
 use Rattle.reckoning.specs.declared.Advanced.{Advanced}
 use Rattle.reckoning.specs.Step.{yearAdvanced, summaryFigures, summaryAdvanced, steppedYear}
-
-pub year-refused : (s : List ℕ) (r : YearAnswer) (n : ℕ) (j : Judged Summary) → r ≡ YearAnswer.Refused n → yearSays s r ≡ j → refused n ≡ j
-year-refused s r n j e q = rw e at q
-
--- a year that was read, of the year that is due
-pub record WasRead (s : List ℕ) (due left days : ℕ) (p b : CarbonUnits) (a : Grams) (next : ℕ) (j : Judged Summary) : Type 0 where
-  pub says : accepted (record { days = days; project = p; belt = b; activity = a }) (drop next s) ≡ j
-  pub inside : next ≤ length s
-  pub project : SmallCarbon (p .0)
-  pub belt : SmallCarbon (b .0)
-  pub activity : mag (a .0) ≤ greatestActivity
-  pub some : 1 ≤ left
-  pub allowed : days ≤ daysInYear due
-
-pub year-was-read : (s : List ℕ) (r : YearAnswer) (due left days : ℕ) (p b : CarbonUnits) (a : Grams) (next : ℕ) (j : Judged Summary)
-    → r ≡ YearAnswer.Read days p b a next → yearSays s r ≡ j → tablesInside s r → yearFits due left r
-    → WasRead s due left days p b a next j
-year-was-read s r due left days p b a next j e q i f =
-    let k : (next ≤ length s) × SmallCarbon (p .0) × SmallCarbon (b .0) × (mag (a .0) ≤ greatestActivity) = rw e at i in
-    let g : (1 ≤ left) × (days ≤ daysInYear due) = rw e at f in
-    record { says = rw e at q; inside = k .0; project = k .1; belt = k .2; activity = k .3; some = g .0; allowed = g .1 }
 
 module _ (factor counted : ℕ → ℕ → ℕ) (matrix : List ℕ) (start beltstart : ℕ) (state : State) (u : List ℕ) where
   pub stepped-no : (n : ℕ) → refused n ≡ summarizedYear counted (state .year) (state .left) start beltstart u → refused n ≡ steppedYear factor counted matrix start beltstart state u

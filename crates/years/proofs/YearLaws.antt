@@ -28,9 +28,8 @@ use Rattle.activities.specs.declared.RunAnswer.{RunAnswer}
 use Rattle.activities.specs.Answers.{summedActivities, runSays, runInside}
 use Rattle.figures.specs.Ranges.{SmallCarbon}
 use Rattle.years.proofs.EndLaws.{none-left-is}
-use Rattle.years.specs.declared.TableAnswer.{TableAnswer}
 use Rattle.years.specs.declared.YearAnswer.{YearAnswer}
-use Rattle.years.specs.Answers.{monitoredTable, tableSays, tableInside, Summary, summary, summarizedYear, summarizedRecords, summarizedTables, yearSays, recordsInside, tablesInside, yearFits}
+use Rattle.years.specs.Answers.{monitoredTable, Summary, summary, summarizedYear, summarizedRecords, summarizedTables, yearSays, recordsInside, tablesInside, yearFits}
 
 -- ---- from CP on
 module _ (factor : ℕ → ℕ → ℕ) (days projectTotal beltTotal : ℕ) (u : List ℕ) where
@@ -107,27 +106,16 @@ module _ (factor : ℕ → ℕ → ℕ) (due left start beltstart : ℕ) (s : Li
         days-right f = sym (rw (year-at, eq-eqb y due e, ← ex, ← eo, f) (tables-summarized factor y d start beltstart (drop (at + 6) s)))
 
 -- ---- what the answers of the code's calls said
-pub table-refused : (s : List ℕ) (r : TableAnswer) (n : ℕ) (j : Judged CarbonUnits) → r ≡ TableAnswer.Refused n → tableSays s r ≡ j → refused n ≡ j
-table-refused s r n j e q = rw e at q
-
-pub table-was-read : (s : List ℕ) (r : TableAnswer) (carbon : CarbonUnits) (next : ℕ) (j : Judged CarbonUnits) → r ≡ TableAnswer.Read carbon next → tableSays s r ≡ j → tableInside s r
-    → (accepted carbon (drop next s) ≡ j) × (next ≤ length s) × SmallCarbon (carbon .0)
-table-was-read s r carbon next j e q i = let k : (next ≤ length s) × SmallCarbon (carbon .0) = rw e at i in (rw e at q, k .0, k .1)
-
 -- the part of the bytes from at, and what the run in it said
 pub rest-is : (s : List ℕ) (at : ℕ) → take (length s - at) (drop at s) ≡ drop at s
 rest-is s at = take-all (length s - at) (drop at s) (omega (arith, length-drop at s))
 
-module _ (s : List ℕ) (at : ℕ) (r : RunAnswer) (j : Judged Grams) (q : runSays (drop at s) r ≡ j) where
-  pub run-refused : (n : ℕ) → r ≡ RunAnswer.Refused n → refused n ≡ j
-  run-refused n e = rw e at q
-
-  pub run-was-read : (grams : Grams) (next : ℕ) → at ≤ length s → r ≡ RunAnswer.Read grams next → runInside (drop at s) r
-      → (accepted grams (drop (at + next) s) ≡ j) × (at + next ≤ length s) × (mag (grams .0) ≤ greatestActivity)
-  run-was-read grams next h e i =
-      let k : (next ≤ length (drop at s)) × (mag (grams .0) ≤ greatestActivity) = rw e at i in
-      let l : next ≤ length s - at = rw length-drop at (k .0) in
-      (rw (e, drop-drop) at q, omega arith, k .1)
+pub run-was-read : (s : List ℕ) (at : ℕ) (r : RunAnswer) (j : Judged Grams) → runSays (drop at s) r ≡ j → (grams : Grams) (next : ℕ) → at ≤ length s → r ≡ RunAnswer.Read grams next
+    → runInside (drop at s) r → (accepted grams (drop (at + next) s) ≡ j) × (at + next ≤ length s) × (mag (grams .0) ≤ greatestActivity)
+run-was-read s at r j q grams next h e i =
+    let k : (next ≤ length (drop at s)) × (mag (grams .0) ≤ greatestActivity) = rw e at i in
+    let l : next ≤ length s - at = rw length-drop at (k .0) in
+    (rw (e, drop-drop) at q, omega arith, k .1)
 
 -- the records of a year keep its small tables
 pub records-keep : (s : List ℕ) (r : YearAnswer) (days : ℕ) (p b : CarbonUnits) (u : List ℕ) → yearSays s r ≡ summarizedRecords days p b u

@@ -10,7 +10,7 @@ use borrow.Author.Needs.{needs}
 use Rattle.wire.specs.Bytes.{numbers, total}
 use Rattle.opening.specs.Answers.{amounts}
 use Rattle.opening.proofs.NumbersLaws.{next-number}
-use Rattle.opening.proofs.AreasLaws.{SoFar, areas-refused, amounts-next, areas-no, areas-above, areas-below, areas-read}
+use Rattle.opening.proofs.AreasLaws.{SoFar, amounts-next, areas-no, areas-above, areas-below, areas-read}
 use Rattle.opening.proofs.read_areas.Statement.{statement}
 use Rattle.opening.proofs.read_areas.Tie as tie
 
@@ -47,7 +47,7 @@ returns c =
     let begun = c .before .before in
     let a = at-start begun .args in
     let (says, room) = begun .begun .ensures in
-    areas-refused _ _ _ _ (c .no-areas .ensures) (areas-no (a .s .now) (a .at) _ _ _ says (c .before .if1 .taken))
+    rw (c .no-areas .ensures) (areas-no (a .s .now) (a .at) _ _ _ says (c .before .if1 .taken), tt)
 
 loop-holds : tie.Need-loop-holds Inv-loop μ-loop
 unfolding numbers total
@@ -79,8 +79,8 @@ returns-2 c =
     let a = at-start begun .args in
     let (says, room) = begun .begun .ensures in
     let g = next-number _ (turn .loop .i) _ _ _ (field .field64 .ensures) in
-    areas-refused _ _ _ _ (c .no-areas2 .ensures)
-    (areas-above (a .s .now) (a .at) _ _ _ says (turn .before .if1 .left) (suc (turn .loop .i)) (omega arith) (omega arith))
+    rw (c .no-areas2 .ensures)
+    (areas-above (a .s .now) (a .at) _ _ _ says (turn .before .if1 .left) (suc (turn .loop .i)) (omega arith) (omega arith), tt)
 
 plus-requires : tie.Need-plus-requires Inv-loop μ-loop
 plus-requires c κs = search needs
@@ -121,8 +121,8 @@ returns-3 c =
     let a = at-start begun .args in
     let (says, room) = begun .begun .ensures in
     let k = rw (done at-end) at (turn .loop .inv) in
-    areas-refused _ _ _ _ (c .no-areas3 .ensures)
-    (areas-below (a .s .now) (a .at) _ (a .least) _ says (turn .before .if1 .left) (omega arith))
+    rw (c .no-areas3 .ensures)
+    (areas-below (a .s .now) (a .at) _ (a .least) _ says (turn .before .if1 .left) (omega arith), tt)
 
 add-t19 : tie.Need-add-t19 Inv-loop μ-loop
 add-t19 c = search needs

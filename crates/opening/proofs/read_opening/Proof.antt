@@ -1,11 +1,11 @@
 -- `opening::read_opening` meets its contract: a refusal of HD is its own; otherwise PA follows.
 -- Assumes nothing.
 use borrow.Author.Needs.{needs}
-use mathlib.Core.Path.{_∙_}
+use mathlib.Core.Path.{refl, _∙_}
 use Rattle.dossier.specs.JudgingRecords.{head}
 use Rattle.dossier.proofs.ReaderLaws.{bind-no, bind-yes}
 use Rattle.opening.specs.Answers.{fromAreas}
-use Rattle.opening.proofs.OpeningLaws.{opening-refused, settled-is}
+use Rattle.opening.proofs.OpeningLaws.{settled-is}
 use Rattle.opening.proofs.read_opening.Statement.{statement}
 use Rattle.opening.proofs.read_opening.Tie as tie
 
@@ -30,7 +30,7 @@ returns : tie.Need-returns
 returns c =
     let at-refused = c .before .before in
     let fault = rw (at-refused .n .given .1) at (at-refused .before .before .read-head .ensures .0) in
-    opening-refused _ _ _ _ (c .no-opening .ensures) (bind-no head fromAreas _ _ fault ∙ settled-is _)
+    rw (c .no-opening .ensures) (bind-no head fromAreas _ _ fault ∙ settled-is _, refl)
 
 returns-2 : tie.Need-returns-2
 returns-2 c =

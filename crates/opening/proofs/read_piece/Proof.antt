@@ -1,7 +1,8 @@
 -- `opening::read_piece` meets its contract: the opening, then the end of the piece; the first fault counts.
 -- Assumes nothing.
+use mathlib.Core.Path.{refl}
 use borrow.Author.Needs.{needs}
-use Rattle.opening.proofs.OpeningLaws.{opening-refused, piece-no, piece-fault, piece-read}
+use Rattle.opening.proofs.OpeningLaws.{piece-no, piece-fault, piece-read}
 use Rattle.opening.proofs.read_piece.Statement.{statement}
 use Rattle.opening.proofs.read_piece.Tie as tie
 
@@ -30,14 +31,14 @@ returns c =
     let at-end = c .before .before in
     let at-answer = at-end .before .before in
     let opened = at-answer .before .before .read-opening in
-    opening-refused _ _ _ _ (c .no-opening2 .ensures)
-    (piece-fault _ _ (opened .ensures .0) _ (at-answer .answer2 .given .1) _ (at-end .end-of-piece .ensures) (c .before .if1 .taken))
+    rw (c .no-opening2 .ensures)
+    (piece-fault _ _ (opened .ensures .0) _ (at-answer .answer2 .given .1) _ (at-end .end-of-piece .ensures) (c .before .if1 .taken), refl)
 
 returns-2 : tie.Need-returns-2
 returns-2 c =
     let at-answer = c .before .before in
     let opened = at-answer .before .before .read-opening in
-    opening-refused _ _ _ _ (c .no-opening .ensures) (piece-no _ _ (opened .ensures .0) _ (at-answer .answer .given .1))
+    rw (c .no-opening .ensures) (piece-no _ _ (opened .ensures .0) _ (at-answer .answer .given .1), refl)
 
 returns-3 : tie.Need-returns-3
 returns-3 c =

@@ -1,10 +1,10 @@
 -- `opening::with_areas` meets its contract: a refusal of PA is its own; otherwise DA follows.
 -- Assumes nothing.
+use mathlib.Core.Path.{refl}
 use borrow.Author.Needs.{needs}
 use Rattle.dossier.specs.Reader.{_>>=_}
 use Rattle.dossier.proofs.ReaderLaws.{bind-no}
 use Rattle.opening.specs.Answers.{fromAreas}
-use Rattle.opening.proofs.OpeningLaws.{opening-refused}
 use Rattle.opening.proofs.with_areas.Statement.{statement}
 use Rattle.opening.proofs.with_areas.Tie as tie
 
@@ -29,7 +29,7 @@ returns : tie.Need-returns
 unfolding fromAreas
 returns c =
     let k = c .before .before in
-    opening-refused _ _ _ _ (c .no-opening .ensures) (bind-no _ _ _ _ (rw (k .found .given .1) at (k .before .before .before .read-areas .ensures .0)))
+    rw (c .no-opening .ensures) (bind-no _ _ _ _ (rw (k .found .given .1) at (k .before .before .before .read-areas .ensures .0)), refl)
 
 returns-2 : tie.Need-returns-2
 unfolding fromAreas _>>=_

@@ -4,7 +4,7 @@ use mathlib.Core.Path.{refl}
 use borrow.Author.Needs.{needs}
 use Rattle.dossier.proofs.ReaderLaws.{bind-no}
 use Rattle.opening.specs.Answers.{matrixOf, fromBelt}
-use Rattle.opening.proofs.OpeningLaws.{opening-refused, matrix-fault, opening-read, settled-terms, settled-state}
+use Rattle.opening.proofs.OpeningLaws.{matrix-fault, opening-read, settled-terms, settled-state}
 use Rattle.opening.proofs.with_belt.Statement.{statement}
 use Rattle.opening.proofs.with_belt.Tie as tie
 
@@ -38,7 +38,7 @@ returns : tie.Need-returns
 unfolding fromBelt
 returns c =
     let k = c .before .before in
-    opening-refused _ _ _ _ (c .no-opening .ensures) (bind-no _ _ _ _ (rw (k .found .given .1) at (k .before .before .before .read-areas .ensures .0)))
+    rw (c .no-opening .ensures) (bind-no _ _ _ _ (rw (k .found .given .1) at (k .before .before .before .read-areas .ensures .0)), refl)
 
 returns-2 : tie.Need-returns-2
 returns-2 c =
@@ -46,7 +46,7 @@ returns-2 c =
     let r = m .before .before in
     let k = r .before .before .before in
     let b = rw (k .found2 .given .1) at (k .before .before .before .read-areas .ensures) in
-    opening-refused _ _ _ _ (c .no-opening2 .ensures) (matrix-fault _ _ _ _ _ (b .0) _ (rw (m .answer .given .1) at (r .read-matrix-under .ensures .0)))
+    rw (c .no-opening2 .ensures) (matrix-fault _ _ _ _ _ (b .0) _ (rw (m .answer .given .1) at (r .read-matrix-under .ensures .0)), refl)
 
 returns-3 : tie.Need-returns-3
 returns-3 c =

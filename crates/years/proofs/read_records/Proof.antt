@@ -9,7 +9,8 @@ use borrow.Author.Needs.{needs}
 use Rattle.classes.specs.Ranges.{greatestActivity}
 use Rattle.dossier.specs.Reader.{accepted}
 use Rattle.activities.specs.Answers.{summedActivities, runSays, runInside}
-use Rattle.years.proofs.YearLaws.{rest-is, run-no, run-yes, run-refused, run-was-read}
+use Rattle.cursor.proofs.AtLaws.{told}
+use Rattle.years.proofs.YearLaws.{rest-is, run-no, run-yes, run-was-read}
 use Rattle.years.proofs.read_records.Statement.{statement}
 use Rattle.years.proofs.read_records.Tie as tie
 
@@ -63,9 +64,7 @@ returns : tie.Need-returns
 returns c =
     let at-answer = c .before in
     let ran = at-answer .before .before in
-    let (says, inside) = run ran in
-    let a = at-start ran .args in
-    (run-no _ _ _ _ _ (run-refused (a .s .now) (a .at) _ _ says _ (at-answer .n .given .1)), tt)
+    (run-no _ _ _ _ _ (told (runSays _) (runInside _) (at-answer .n .given .1) (run ran) .0), tt)
 
 returns-2 : tie.Need-returns-2
 returns-2 c = let (says, within, small) = read (c .before) in (run-yes _ _ _ _ _ _ says, (within, small))

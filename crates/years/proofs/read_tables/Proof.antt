@@ -4,7 +4,9 @@ use mathlib.Core.Path.{_∙_}
 use lib.ListN.{drop}
 use borrow.Author.Needs.{needs}
 use Rattle.classes.specs.Matrix.{entry}
-use Rattle.years.proofs.YearLaws.{project-no, belt-no, belt-yes, table-refused, table-was-read, records-keep}
+use Rattle.cursor.proofs.AtLaws.{told}
+use Rattle.years.specs.Answers.{tableSays, tableInside}
+use Rattle.years.proofs.YearLaws.{project-no, belt-no, belt-yes, records-keep}
 use Rattle.years.proofs.read_tables.Statement.{statement}
 use Rattle.years.proofs.read_tables.Tie as tie
 
@@ -28,7 +30,7 @@ read-table-requires-2 : tie.Need-read-table-requires-2
 read-table-requires-2 c κs =
     let at-start = at-project c .before .before in
     let ((inside, project, belt), fit) = at-start .pre in
-    let (_, next, _) = table-was-read _ _ _ _ _ (c .before .carbon .given .1) (at-project c .read-table .ensures .0) (at-project c .read-table .ensures .1) in
+    let (_, (next, _)) = told (tableSays _) (tableInside _) (c .before .carbon .given .1) (at-project c .read-table .ensures) in
     ((next, belt), fit)
 
 enum-known-n-2 : tie.Need-enum-known-n-2
@@ -38,34 +40,34 @@ enum-known-belt-carbon : tie.Need-enum-known-belt-carbon
 enum-known-belt-carbon c = search needs
 
 read-records-requires : tie.Need-read-records-requires
-read-records-requires c κs = table-was-read _ _ _ _ _ (c .before .belt-carbon .given .1) (at-belt c .read-table2 .ensures .0) (at-belt c .read-table2 .ensures .1) .1
+read-records-requires c κs = told (tableSays _) (tableInside _) (c .before .belt-carbon .given .1) (at-belt c .read-table2 .ensures) .1 .0
 
 returns : tie.Need-returns
 returns c =
     let at-table = c .before .before .before in
     let a = at-table .before .before .args in
     let no = project-no (entry (a .factors .now)) (a .days) (a .project .0) (a .belt .0) (drop (a .at) (a .s .now)) in
-    (no _ (table-refused _ _ _ _ (c .before .n .given .1) (at-table .read-table .ensures .0)), tt)
+    (no _ (rw (c .before .n .given .1) at (at-table .read-table .ensures .0)), tt)
 
 returns-2 : tie.Need-returns-2
 returns-2 c =
     let at-table = c .before .before .before in
     let k = at-table .before in
     let a = at-project k .before .before .args in
-    let p = table-was-read _ _ _ _ _ (k .before .carbon .given .1) (at-project k .read-table .ensures .0) (at-project k .read-table .ensures .1) in
+    let p = told (tableSays _) (tableInside _) (k .before .carbon .given .1) (at-project k .read-table .ensures) in
     let no = belt-no (entry (a .factors .now)) (a .days) (a .project .0) (a .belt .0) (drop (a .at) (a .s .now)) in
-    (no _ _ (p .0) _ (table-refused _ _ _ _ (c .before .n2 .given .1) (at-table .read-table2 .ensures .0)), tt)
+    (no _ _ (p .0) _ (rw (c .before .n2 .given .1) at (at-table .read-table2 .ensures .0)), tt)
 
 returns-3 : tie.Need-returns-3
 returns-3 c =
     let r = c .before in
     let k = at-belt r .before in
     let a = at-project k .before .before .args in
-    let p = table-was-read _ _ _ _ _ (k .before .carbon .given .1) (at-project k .read-table .ensures .0) (at-project k .read-table .ensures .1) in
-    let b = table-was-read _ _ _ _ _ (r .before .belt-carbon .given .1) (at-belt r .read-table2 .ensures .0) (at-belt r .read-table2 .ensures .1) in
+    let p = told (tableSays _) (tableInside _) (k .before .carbon .given .1) (at-project k .read-table .ensures) in
+    let b = told (tableSays _) (tableInside _) (r .before .belt-carbon .given .1) (at-belt r .read-table2 .ensures) in
     let yes = belt-yes (entry (a .factors .now)) (a .days) (a .project .0) (a .belt .0) (drop (a .at) (a .s .now)) in
     let (says, inside) = c .read-records .ensures in
-    (says ∙ yes _ _ (p .0) _ _ (b .0), records-keep (a .s .now) (c .read-records .result) _ _ _ _ says inside (p .2) (b .2))
+    (says ∙ yes _ _ (p .0) _ _ (b .0), records-keep (a .s .now) (c .read-records .result) _ _ _ _ says inside (p .1 .1) (b .1 .1))
 
 pub read-tables-spec : {M : Type 1} → statement M
 read-tables-spec =
