@@ -77,22 +77,6 @@ year-exact due h = go (eqb (due .state .left) 0) (eqb-true _ _) (eqb-false _ _)
     go true e f = none (e refl)
     go false e f = year-due-exact due h (some (f refl))
 
--- an accepted year is the one that is due, whatever the bytes are
-pub year-is-due : (due : Due) (s : List ℕ) {y : Year} {t : List ℕ} → year due s ≡ accepted y t → y .year ≡ due .state .year
-unfolding year yearLeft
-year-is-due due s {y} {t} q = go (eqb (due .state .left) 0) q
-  where
-    named : (v : ℕ) (z : Year) (u : List ℕ) → v ≡ due .state .year → z .year ≡ v → give z u ≡ accepted y t → y .year ≡ due .state .year
-    named v z u e f q = unfold give in rw (← was q .0, f) e
-
-    go : (b : Bool) → cond b noneLeft (yearRecords (due .state .year) (due .terms .start .0) (due .terms .beltstart .0)) s ≡ accepted y t → y .year ≡ due .state .year
-    go true q = unfold noneLeft refuse in then-only _ _ _ q (λ _ u _ q. no _ _ _ q)
-    go false q =
-        unfold yearRecords in
-        then-only _ _ _ q (λ _ u _ q. bind-only _ _ _ q (λ v u _ q. bind-only _ _ _ q (λ d u _ q.
-        then-only _ _ _ q (λ _ u e q. then-only _ _ _ q (λ _ u _ q.
-        bind-only _ _ _ q (λ p u _ q. bind-only _ _ _ q (λ b u _ q. bind-only _ _ _ q (λ l u _ q. named v _ u (equal-only _ _ _ _ e .0) refl q))))))))
-
 -- a year begins with YR
 pub year-begins : (kind : ℕ → Bool) (y : Year) (t : List ℕ) → stands kind (yearBytes y ++ t) ≡ kind YR
 unfolding yearBytes joined

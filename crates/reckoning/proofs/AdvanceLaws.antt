@@ -11,7 +11,6 @@ use mir.Val.{SFits}
 use Rattle.classes.specs.declared.CarbonUnits.{CarbonUnits}
 use Rattle.classes.specs.declared.Grams.{Grams}
 use Rattle.classes.specs.Matrix.{entry}
-use Rattle.classes.specs.Calendar.{daysInYear}
 use Rattle.classes.specs.Ranges.{greatestActivity, greatestFigure, greatestTotal}
 use Rattle.classes.proofs.RangeLaws.{plus-fits}
 use Rattle.projection.specs.declared.Region.{Region}
@@ -22,9 +21,10 @@ use Rattle.projection.proofs.ProjectionLaws.{fitting-le}
 use Rattle.figures.specs.declared.Figures.{Figures}
 use Rattle.figures.specs.Ranges.{SmallCarbon, SmallYear, DaysOf}
 use Rattle.figures.specs.Carbon.{carbonFigures}
-use Rattle.figures.proofs.FiguresLaws.{projected-small, calendar-days, year-small}
+use Rattle.figures.proofs.FiguresLaws.{projected-small, year-small}
 use Rattle.figures.specs.declared.State.{State}
 use Rattle.figures.specs.Reckoning.{afterFigures}
+use Rattle.years.specs.declared.OperatingDays.{OperatingDays}
 use Rattle.reckoning.specs.declared.Advanced.{Advanced}
 use Rattle.reckoning.specs.Step.{summaryFigures, summaryAdvanced}
 
@@ -34,21 +34,17 @@ pub carbon-small : (matrix factors : List ℕ) (region : Region) (r : Projected)
 unfolding projectedYear
 carbon-small matrix factors region r rows fit small e = rw e (projected-small region matrix (entry factors) small rows (fitting-le factors fit))
 
--- the days that figures are asked with
-pub days-asked : (days year yeardays : ℕ) → days ≤ daysInYear year → yeardays ≡ daysInYear year → DaysOf days yeardays
-days-asked days year yeardays h e = rw e (calendar-days days year h)
-
-module _ (matrix factors : List ℕ) (state : State) (days : ℕ) (p b : CarbonUnits) (a : Grams) (r r′ : Projected) (yeardays : ℕ) (figures : Figures)
-    (e : r ≡ projectedYear (entry factors) matrix (state .project)) (e′ : r′ ≡ projectedYear (entry factors) matrix (state .belt)) (ed : yeardays ≡ daysInYear (state .year))
-    (ef : figures ≡ carbonFigures (record { projected = r .carbon; monitored = p }) (record { projected = r′ .carbon; monitored = b }) (a .0) days yeardays) where
+module _ (matrix factors : List ℕ) (state : State) (days : OperatingDays) (p b : CarbonUnits) (a : Grams) (r r′ : Projected) (figures : Figures)
+    (e : r ≡ projectedYear (entry factors) matrix (state .project)) (e′ : r′ ≡ projectedYear (entry factors) matrix (state .belt))
+    (ef : figures ≡ carbonFigures (record { projected = r .carbon; monitored = p }) (record { projected = r′ .carbon; monitored = b }) (a .0) (days .days) (days .yeardays)) where
   figures-are : figures ≡ summaryFigures (entry factors) matrix (record { days = days; project = p; belt = b; activity = a }) state
   unfolding summaryFigures projectedYear
-  figures-are = ef ∙ rw (e, e′, ed)
+  figures-are = ef ∙ rw (e, e′)
 
   pub grown-fits : SmallYear (record { projected = r .carbon; monitored = p }) → SmallYear (record { projected = r′ .carbon; monitored = b }) → mag (a .0) ≤ greatestActivity
-      → DaysOf days yeardays → mag (state .total .0) ≤ greatestTotal → SFits w64 (state .total .0 +ℤ figures .credited .0)
+      → DaysOf (days .days) (days .yeardays) → mag (state .total .0) ≤ greatestTotal → SFits w64 (state .total .0 +ℤ figures .credited .0)
   grown-fits hp hb ha hd ht =
-      let small : mag (figures .credited .0) < greatestFigure = rw ef (year-small _ _ (a .0) days yeardays hp hb ha hd .credited) in
+      let small : mag (figures .credited .0) < greatestFigure = rw ef (year-small _ _ (a .0) (days .days) (days .yeardays) hp hb ha hd .credited) in
       plus-fits (state .total .0) (figures .credited .0) ht (omega arith)
 
   pub whole : (grown : Grams) → grown .0 ≡ state .total .0 +ℤ figures .credited .0

@@ -17,7 +17,6 @@ use Rattle.figures.specs.Reckoning.{regionReference, tableEmissions, yearFigure
 use Rattle.dossier.specs.Reader.{Judged, refused, accepted, after, _>>=_, give}
 use Rattle.dossier.specs.Judging.{year}
 use Rattle.dossier.proofs.ReaderLaws.{bind-no, bind-yes}
-use Rattle.dossier.proofs.YearLaws.{year-is-due}
 use Rattle.years.specs.Answers.{Summary, summary, summarizedYear}
 use Rattle.reckoning.specs.declared.Advanced.{Advanced}
 use Rattle.reckoning.specs.Step.{yearAdvanced, summaryFigures, summaryAdvanced, steppedYear}
@@ -49,7 +48,7 @@ module _ (t : Terms) (factors counted : List ℕ) (ef : factors ≡ tableOf (emi
   counted-is : (i j : ℕ) → i < classes → j < classes → entry counted i j ≡ countedFactor (t .option) (emissionFactor (t .stocks)) i j
   counted-is i j hi hj = rw ec (entry-tableOf (countedFactor (t .option) (emissionFactor (t .stocks))) i j hi hj)
 
-  module _ (y : Year) (state : State) (due : y .year ≡ state .year) where
+  module _ (y : Year) (state : State) where
     figures-same : summaryFigures (entry factors) (t .matrix) (summary (entry counted) y) state ≡ yearFigures t y (state .project) (state .belt)
     unfolding summaryFigures yearFigures regionReference tableEmissions
     figures-same =
@@ -58,7 +57,6 @@ module _ (t : Terms) (factors counted : List ℕ) (ef : factors ≡ tableOf (emi
           carbon-same (entry factors) (emissionFactor (t .stocks)) (state .belt) (t .matrix) factor-is,
           monitored-same (entry counted) (countedFactor (t .option) (emissionFactor (t .stocks))) (y .conversions) counted-is,
           monitored-same (entry counted) (countedFactor (t .option) (emissionFactor (t .stocks))) (y .beltConversions) counted-is,
-          due,
         )
 
     advanced-same : summaryAdvanced (entry factors) (t .matrix) (summary (entry counted) y) state ≡ yearAdvanced t y state
@@ -68,9 +66,9 @@ module _ (t : Terms) (factors counted : List ℕ) (ef : factors ≡ tableOf (emi
   pub step-is : (state : State) (u : List ℕ)
       → steppedYear (entry factors) (entry counted) (t .matrix) (t .start .0) (t .beltstart .0) state u ≡ after (year (record { terms = t; state = state }) u) (λ y. give (yearAdvanced t y state))
   unfolding steppedYear summarizedYear give _>>=_
-  step-is state u = unfold year in go (year (record { terms = t; state = state }) u) refl
+  step-is state u = unfold year in go (year (record { terms = t; state = state }) u)
     where
-      go : (j : Judged Year) → year (record { terms = t; state = state }) u ≡ j
+      go : (j : Judged Year)
           → after (after j (λ y. give (summary (entry counted) y))) (λ m. give (summaryAdvanced (entry factors) (t .matrix) m state)) ≡ after j (λ y. give (yearAdvanced t y state))
-      go (refused n) e = refl
-      go (accepted y v) e = unfold give in rw (advanced-same y state (year-is-due (record { terms = t; state = state }) u e))
+      go (refused n) = refl
+      go (accepted y v) = unfold give in rw (advanced-same y state)

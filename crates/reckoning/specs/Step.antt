@@ -5,7 +5,6 @@ use mathlib.Core.Path.{_≡_}
 use mathlib.Core.List.{List}
 use lib.Signed.{mag}
 use lib.ListN.{length, drop}
-use Rattle.classes.specs.Calendar.{daysInYear}
 use Rattle.classes.specs.Ranges.{greatestTotal}
 use Rattle.projection.specs.Projection.{projectedCarbon}
 use Rattle.projection.specs.Ranges.{SmallRegion}
@@ -25,7 +24,7 @@ use Rattle.reckoning.specs.declared.Stepped.{Stepped}
 unfoldable pub summaryFigures : (ℕ → ℕ → ℕ) → List ℕ → Summary → State → Figures
 summaryFigures factor matrix m state =
     carbonFigures (record { projected = record { 0 = projectedCarbon factor (state .project .areas) matrix }; monitored = m .project })
-    (record { projected = record { 0 = projectedCarbon factor (state .belt .areas) matrix }; monitored = m .belt }) (m .activity .0) (m .days) (daysInYear (state .year))
+    (record { projected = record { 0 = projectedCarbon factor (state .belt .areas) matrix }; monitored = m .belt }) (m .activity .0) (m .days .days) (m .days .yeardays)
 
 unfoldable pub summaryAdvanced : (ℕ → ℕ → ℕ) → List ℕ → Summary → State → Advanced
 summaryAdvanced factor matrix m state = record {

@@ -5,16 +5,16 @@ use classes::Grams;
 use figures::Figures;
 use figures::State;
 use figures::YearCarbon;
+use years::OperatingDays;
 use years::YearAnswer;
 ghost use mathlib.Core.Path.{_≡_};
 ghost use Prim.Native.Nat.{_≤_};
 ghost use lib.Signed.{mag};
 ghost use lib.ListN.{length, drop};
 ghost use Rattle.classes.specs.Matrix.{entry};
-ghost use Rattle.classes.specs.Calendar.{daysInYear};
 ghost use Rattle.classes.specs.Ranges.{greatestActivity};
 ghost use Rattle.projection.specs.Ranges.{SmallArea, RowsWithin, FactorsFit};
-ghost use Rattle.figures.specs.Ranges.{SmallCarbon};
+ghost use Rattle.figures.specs.Ranges.{SmallCarbon, DaysOf};
 ghost use Rattle.reckoning.specs.Step.{summaryAdvanced, steppedYear, stepSays, stepInside, SmallState};
 
 // The state after a year, and the year's figures.
@@ -34,10 +34,10 @@ pub struct Stepped {
     pub advanced: Advanced,
 }
 
-// A year of d = days reckoned from the carbon of its tables and the emissions of its records.
+// A year of these days reckoned from the carbon of its tables and the emissions of its records.
 fn advance(
     state: State,
-    days: u64,
+    days: OperatingDays,
     project: CarbonUnits,
     belt: CarbonUnits,
     activity: Grams,
@@ -47,7 +47,7 @@ fn advance(
     requires { ⌜ SmallState state ⌝ }
     requires { ⌜ RowsWithin (now matrix) ⌝ }
     requires { ⌜ FactorsFit (now factors) ⌝ }
-    requires { ⌜ (SmallCarbon (project .0)) × (SmallCarbon (belt .0)) × (mag (activity .0) ≤ greatestActivity) × (1 ≤ state .left) × (days ≤ daysInYear (state .year)) ⌝ }
+    requires { ⌜ (SmallCarbon (project .0)) × (SmallCarbon (belt .0)) × (mag (activity .0) ≤ greatestActivity) × (1 ≤ state .left) × DaysOf (days .days) (days .yeardays) ⌝ }
     ensures { λ r. ⌜ r ≡ summaryAdvanced (entry (now (factors .entry))) (now (matrix .entry)) (record { days = days; project = project; belt = belt; activity = activity }) state ⌝ }
 {
     let region = state.project;
@@ -66,8 +66,7 @@ fn advance(
         projected: belt_carbon,
         monitored: belt,
     };
-    let yeardays = classes::days_in_year(state.year);
-    let figures = figures::year_figures(of_project, of_belt, activity, days, yeardays);
+    let figures = figures::year_figures(of_project, of_belt, activity, days.days, days.yeardays);
     let credited = figures.credited;
     let total = state.total;
     let grown = total.plus(credited);

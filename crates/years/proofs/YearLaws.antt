@@ -26,13 +26,15 @@ use Rattle.cursor.proofs.AtLaws.{begun-no, begun-yes, reading}
 use Rattle.dossier.proofs.ReaderLaws.{step, was, bind-no, bind-yes, bind-bind, after-same}
 use Rattle.activities.specs.declared.RunAnswer.{RunAnswer}
 use Rattle.activities.specs.Answers.{summedActivities, runSays, runInside}
-use Rattle.figures.specs.Ranges.{SmallCarbon}
+use Rattle.figures.specs.Ranges.{SmallCarbon, DaysOf}
+use Rattle.figures.proofs.FiguresLaws.{calendar-days}
 use Rattle.years.proofs.EndLaws.{none-left-is}
+use Rattle.years.specs.declared.OperatingDays.{OperatingDays}
 use Rattle.years.specs.declared.YearAnswer.{YearAnswer}
 use Rattle.years.specs.Answers.{monitoredTable, Summary, summary, summarizedYear, summarizedRecords, summarizedTables, yearSays, recordsInside, tablesInside, yearFits}
 
 -- ---- from CP on
-module _ (factor : ℕ → ℕ → ℕ) (days projectTotal beltTotal : ℕ) (u : List ℕ) where
+module _ (factor : ℕ → ℕ → ℕ) (days : OperatingDays) (projectTotal beltTotal : ℕ) (u : List ℕ) where
   pub project-no : (n : ℕ) → refused n ≡ monitoredTable factor CP projectTotal u → refused n ≡ summarizedTables factor days projectTotal beltTotal u
   unfolding summarizedTables
   project-no n e = bind-no (monitoredTable factor CP projectTotal) _ u n e
@@ -47,7 +49,7 @@ module _ (factor : ℕ → ℕ → ℕ) (days projectTotal beltTotal : ℕ) (u :
     belt-yes b w f = bind-yes (monitoredTable factor CD beltTotal) _ v b w f ∙ bind-yes (monitoredTable factor CP projectTotal) _ u p v e
 
 -- ---- from the activity records on
-module _ (days : ℕ) (p b : CarbonUnits) (w : List ℕ) where
+module _ (days : OperatingDays) (p b : CarbonUnits) (w : List ℕ) where
   pub run-no : (n : ℕ) → refused n ≡ summedActivities w → refused n ≡ summarizedRecords days p b w
   unfolding summarizedRecords
   run-no n g = bind-no summedActivities _ w n g
@@ -66,7 +68,7 @@ tables calendarYear days projectTotal beltTotal = do
 
 tables-summarized : (factor : ℕ → ℕ → ℕ) (calendarYear days projectTotal beltTotal : ℕ) (u : List ℕ)
     → after (tables calendarYear days projectTotal beltTotal u) (λ y. give (summary factor y))
-    ≡ summarizedTables factor days projectTotal beltTotal u
+    ≡ summarizedTables factor (record { days = days; yeardays = daysInYear calendarYear }) projectTotal beltTotal u
 unfolding tables summarizedTables summarizedRecords monitoredTable summedActivities give _>>=_
 tables-summarized factor calendarYear days projectTotal beltTotal u =
     bind-bind (conversions CP projectTotal u) _ _
@@ -101,9 +103,9 @@ module _ (factor : ℕ → ℕ → ℕ) (due left start beltstart : ℕ) (s : Li
         unfolding summarizedYear
         days-wrong f = bind-no (yearLeft due left start beltstart) _ (drop at s) 6 (rw (year-at, eq-eqb y due e, ← ex, ← eo, f))
 
-        pub days-right : out ≡ false → summarizedTables factor d start beltstart (drop (at + 6) s) ≡ summarizedYear factor due left start beltstart (drop at s)
+        pub days-right : out ≡ false → summarizedTables factor (record { days = d; yeardays = x }) start beltstart (drop (at + 6) s) ≡ summarizedYear factor due left start beltstart (drop at s)
         unfolding summarizedYear _>>=_
-        days-right f = sym (rw (year-at, eq-eqb y due e, ← ex, ← eo, f) (tables-summarized factor y d start beltstart (drop (at + 6) s)))
+        days-right f = sym (rw (year-at, eq-eqb y due e, ← ex, ← eo, f) (rw ex (tables-summarized factor y d start beltstart (drop (at + 6) s))))
 
 -- ---- what the answers of the code's calls said
 -- the part of the bytes from at, and what the run in it said
@@ -118,7 +120,7 @@ run-was-read s at r j q grams next h e i =
     (rw (e, drop-drop) at q, omega arith, k .1)
 
 -- the records of a year keep its small tables
-pub records-keep : (s : List ℕ) (r : YearAnswer) (days : ℕ) (p b : CarbonUnits) (u : List ℕ) → yearSays s r ≡ summarizedRecords days p b u
+pub records-keep : (s : List ℕ) (r : YearAnswer) (days : OperatingDays) (p b : CarbonUnits) (u : List ℕ) → yearSays s r ≡ summarizedRecords days p b u
     → recordsInside s r → SmallCarbon (p .0) → SmallCarbon (b .0) → tablesInside s r
 unfolding summarizedRecords _>>=_ give
 records-keep s (YearAnswer.Refused n) days p b u q i hp hb = tt
@@ -130,7 +132,7 @@ records-keep s (YearAnswer.Read days′ p′ b′ activity next) days p b u q i 
     (i .0, rw ep hp, rw eb hb, i .1)
 
 -- the days that were read
-tables-days : (factor : ℕ → ℕ → ℕ) (days projectTotal beltTotal : ℕ) (u : List ℕ) (m : Summary) (v : List ℕ)
+tables-days : (factor : ℕ → ℕ → ℕ) (days : OperatingDays) (projectTotal beltTotal : ℕ) (u : List ℕ) (m : Summary) (v : List ℕ)
     → summarizedTables factor days projectTotal beltTotal u ≡ accepted m v → m .days ≡ days
 unfolding summarizedTables summarizedRecords _>>=_ give
 tables-days factor days projectTotal beltTotal u m v e =
@@ -139,8 +141,12 @@ tables-days factor days projectTotal beltTotal u m v e =
     let r = step (summedActivities (b .1)) _ (b .3) in
     ap (λ (x : Summary). x .days) (sym (was (r .3) .0))
 
-pub fits : (factor : ℕ → ℕ → ℕ) (s : List ℕ) (r : YearAnswer) (due left days projectTotal beltTotal : ℕ) (u : List ℕ)
-    → yearSays s r ≡ summarizedTables factor days projectTotal beltTotal u → (left ≡ 0 → ⊥) → days ≤ daysInYear due → yearFits due left r
-fits factor s (YearAnswer.Refused n) due left days projectTotal beltTotal u q some h = tt
-fits factor s (YearAnswer.Read days′ p b activity next) due left days projectTotal beltTotal u q some h =
+pub fits : (factor : ℕ → ℕ → ℕ) (s : List ℕ) (r : YearAnswer) (left : ℕ) (days : OperatingDays) (projectTotal beltTotal : ℕ) (u : List ℕ)
+    → yearSays s r ≡ summarizedTables factor days projectTotal beltTotal u → (left ≡ 0 → ⊥) → DaysOf (days .days) (days .yeardays) → yearFits left r
+fits factor s (YearAnswer.Refused n) left days projectTotal beltTotal u q some h = tt
+fits factor s (YearAnswer.Read days′ p b activity next) left days projectTotal beltTotal u q some h =
     (omega (arith, some), rw (tables-days factor days projectTotal beltTotal u _ _ (sym q)) h)
+
+-- days of operation that are not above the days of their year
+pub days-of : (days year yeardays : ℕ) → yeardays ≡ daysInYear year → days ≤ yeardays → DaysOf days yeardays
+days-of days year yeardays e h = rw e (calendar-days days year (rw e at h))

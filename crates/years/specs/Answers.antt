@@ -12,13 +12,14 @@ use Rattle.classes.specs.Ranges.{greatestActivity}
 use Rattle.activity.specs.Activity.{activityEmissions}
 use Rattle.figures.specs.Year.{Year}
 use Rattle.figures.specs.Figures.{monitoredCarbon}
-use Rattle.figures.specs.Ranges.{SmallCarbon}
+use Rattle.figures.specs.Ranges.{SmallCarbon, DaysOf}
 use Rattle.dossier.specs.Reader.{Judged, refused, accepted, Reader, _>>=_, _>>_, give}
 use Rattle.dossier.specs.JudgingRecords.{conversions}
 use Rattle.dossier.specs.Marks.{CP, CD}
 use Rattle.dossier.specs.Judging.{yearLeft}
 use Rattle.activities.specs.Answers.{summedActivities}
 use Rattle.years.specs.declared.TableAnswer.{TableAnswer}
+use Rattle.years.specs.declared.OperatingDays.{OperatingDays}
 use Rattle.years.specs.declared.YearAnswer.{YearAnswer}
 
 -- ---- CP, CD: the carbon of the conversions by a table of factors
@@ -38,14 +39,14 @@ tableInside s (TableAnswer.Refused n) = Unit {0}
 
 -- ---- YR to the last activity record
 pub record Summary : Type 0 where
-  pub days : ℕ
+  pub days : OperatingDays
   pub project : CarbonUnits
   pub belt : CarbonUnits
   pub activity : Grams
 
 abbrev pub summary : (ℕ → ℕ → ℕ) → Year → Summary
 summary factor y = record {
-  days = y .operatingDays;
+  days = record { days = y .operatingDays; yeardays = daysInYear (y .year) };
   project = record { 0 = monitoredCarbon factor (y .conversions) };
   belt = record { 0 = monitoredCarbon factor (y .beltConversions) };
   activity = record { 0 = pos (activityEmissions (y .activities)) };
@@ -57,12 +58,12 @@ summarizedYear factor dueYear left start beltstart = do
   give (summary factor y)
 
 -- from the activity records on, and from CP on
-unfoldable pub summarizedRecords : ℕ → CarbonUnits → CarbonUnits → Reader Summary
+unfoldable pub summarizedRecords : OperatingDays → CarbonUnits → CarbonUnits → Reader Summary
 summarizedRecords days project belt = do
   grams ← summedActivities
   give (record { days = days; project = project; belt = belt; activity = grams })
 
-unfoldable pub summarizedTables : (ℕ → ℕ → ℕ) → ℕ → ℕ → ℕ → Reader Summary
+unfoldable pub summarizedTables : (ℕ → ℕ → ℕ) → OperatingDays → ℕ → ℕ → Reader Summary
 summarizedTables factor days projectTotal beltTotal = do
   p ← monitoredTable factor CP projectTotal
   b ← monitoredTable factor CD beltTotal
@@ -81,7 +82,7 @@ abbrev pub tablesInside : List ℕ → YearAnswer → Type 0
 tablesInside s (YearAnswer.Read days project belt activity next) = (next ≤ length s) × SmallCarbon (project .0) × SmallCarbon (belt .0) × (mag (activity .0) ≤ greatestActivity)
 tablesInside s (YearAnswer.Refused n) = Unit {0}
 
--- a year was left, and d is no more than the days of the one that is due
-abbrev pub yearFits : ℕ → ℕ → YearAnswer → Type 0
-yearFits due left (YearAnswer.Read days project belt activity next) = (1 ≤ left) × (days ≤ daysInYear due)
-yearFits due left (YearAnswer.Refused n) = Unit {0}
+-- a year was left, and its days are days of a year
+abbrev pub yearFits : ℕ → YearAnswer → Type 0
+yearFits left (YearAnswer.Read days project belt activity next) = (1 ≤ left) × DaysOf (days .days) (days .yeardays)
+yearFits left (YearAnswer.Refused n) = Unit {0}

@@ -26,9 +26,15 @@ enum TableAnswer {
     Refused(u8),
 }
 
+// The days of operation of a year, and the days of the calendar year: d and D of the reference level.
+pub struct OperatingDays {
+    pub days: u64,
+    pub yeardays: u64,
+}
+
 pub enum YearAnswer {
     Read {
-        days: u64,
+        days: OperatingDays,
         project: CarbonUnits,
         belt: CarbonUnits,
         activity: Grams,
@@ -69,11 +75,11 @@ fn read_table(s: &[u8], at: usize, m: u64, total: AreaUnits, factors: &[u64; 144
     }
 }
 
-// A year from CP on, of d = days: both tables and the activity records.
+// A year from CP on, of these days: both tables and the activity records.
 fn read_tables(
     s: &[u8],
     at: usize,
-    days: u64,
+    days: OperatingDays,
     project: AreaUnits,
     belt: AreaUnits,
     factors: &[u64; 144],
@@ -99,7 +105,7 @@ fn read_tables(
 fn read_records(
     s: &[u8],
     at: usize,
-    days: u64,
+    days: OperatingDays,
     project: CarbonUnits,
     belt: CarbonUnits,
 ) -> YearAnswer
@@ -167,7 +173,7 @@ pub fn read_year(
     requires { ⌜ FactorsFit (now factors) ⌝ }
     ensures { λ r. ⌜ yearSays (now (s .entry)) r ≡ summarizedYear (entry (now (factors .entry))) year left (project .0) (belt .0) (drop at (now (s .entry))) ⌝ }
     ensures { λ r. ⌜ tablesInside (now (s .entry)) r ⌝ }
-    ensures { λ r. ⌜ yearFits year left r ⌝ }
+    ensures { λ r. ⌜ yearFits left r ⌝ }
 {
     if left == 0 {
         return YearAnswer::Refused(none_left(s, at));
@@ -180,8 +186,10 @@ pub fn read_year(
         return YearAnswer::Refused(6);
     }
     let days = wire::field16(s, at + 4);
-    if cursor::outside(days, 1, classes::days_in_year(year)) {
+    let yeardays = classes::days_in_year(year);
+    if cursor::outside(days, 1, yeardays) {
         return YearAnswer::Refused(6);
     }
-    read_tables(s, at + 6, days, project, belt, factors)
+    let operating = OperatingDays { days, yeardays };
+    read_tables(s, at + 6, operating, project, belt, factors)
 }

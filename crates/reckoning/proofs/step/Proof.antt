@@ -26,7 +26,7 @@ advance-requires c κs =
     let pre = at-start .pre in
     let a = at-start .args in
     let (_, ((_, project, belt, activity), (some, allowed))) =
-    told (yearSays (a .s .now)) (λ r. tablesInside (a .s .now) r × yearFits (a .state .year) (a .state .left) r) (c .before .days .given .1) (at-read .read-year .ensures) in
+    told (yearSays (a .s .now)) (λ r. tablesInside (a .s .now) r × yearFits (a .state .left) r) (c .before .days .given .1) (at-read .read-year .ensures) in
     (pre .1 .0, (pre .1 .1 .0, (pre .1 .1 .1 .0, (project, belt, activity, some, allowed))))
 
 returns : tie.Need-returns
@@ -41,7 +41,7 @@ returns-2 c =
     let at-read = at-told .before .before in
     let a = at-read .before .before .args in
     let (says, ((inside, _, _, _), _)) =
-    told (yearSays (a .s .now)) (λ r. tablesInside (a .s .now) r × yearFits (a .state .year) (a .state .left) r) (at-told .days .given .1) (at-read .read-year .ensures) in
+    told (yearSays (a .s .now)) (λ r. tablesInside (a .s .now) r × yearFits (a .state .left) r) (at-told .days .given .1) (at-read .read-year .ensures) in
     (stepped-yes _ _ _ _ _ _ _ _ _ _ says (c .advance .ensures), inside)
 
 pub step-spec : {M : Type 1} → statement M
