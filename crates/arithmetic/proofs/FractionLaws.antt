@@ -29,8 +29,7 @@ parts-<ᶠ {x} {y} h = record { cross = parts-lt (x .num *ℤ pos (y .den)) (y .
 -- a sum, by the parts
 pub sum-parts : (x y : Fraction) → over (x +ᶠ y) + (under x * y .den + under y * x .den) ≡ under (x +ᶠ y) + (over x * y .den + over y * x .den)
 unfolding _+ᶠ_
-sum-parts x y =
-    omega (arith, add-parts (x .num *ℤ pos (y .den)) (y .num *ℤ pos (x .den)), mul-above (x .num) (y .den), mul-below (x .num) (y .den), mul-above (y .num) (x .den), mul-below (y .num) (x .den))
+sum-parts x y = omega (arith, add-parts (x .num *ℤ pos (y .den)) (y .num *ℤ pos (x .den)), crossed x y, crossed y x)
 
 pub sum-den : (x y : Fraction) → (x +ᶠ y) .den ≡ x .den * y .den
 unfolding _+ᶠ_
