@@ -18,6 +18,7 @@ use Rattle.classes.specs.Matrix.{entry}
 use Rattle.projection.specs.declared.Projected.{Projected}
 use Rattle.projection.specs.Projection.{areaTotal, nextArea, nextAreas, lostArea, projectedRegion, projectedYear}
 use Rattle.projection.specs.Inflow.{inflowCarbon}
+use Rattle.projection.specs.Ranges.{RowsWithin}
 use Rattle.projection.proofs.ProjectionLaws.{fitting-le, areas-kept, columns-le, carbon-columns}
 use Rattle.projection.proofs.Region.projected.Statement.{statement}
 use Rattle.projection.proofs.Region.projected.Tie as tie
@@ -25,16 +26,22 @@ use Rattle.projection.proofs.Region.projected.Tie as tie
 abbrev nextUnits : List AreaUnits → List ℕ → ℕ → AreaUnits
 nextUnits areas matrix j = record { 0 = nextArea areas matrix j }
 
+-- the next areas and the carbon after j columns
+record SoFar (areas : List AreaUnits) (matrix factors : List ℕ) (next : List AreaUnits) (units j : ℕ) : Type 0 where
+  bound : j ≤ 12
+  twelve : length next ≡ 12
+  stored : take j next ≡ listed j (nextUnits areas matrix)
+  carbon : units ≡ sum j (inflowCarbon (entry factors) areas matrix)
+
 abbrev Inv-loop : tie.InvT-loop
-Inv-loop self matrix factors areas next₀ carbon₀ j₀ next carbon j =
-    (j ≤ 12) × (length next ≡ 12) × (take j next ≡ listed j (nextUnits areas matrix)) × (carbon .0 ≡ sum j (inflowCarbon (entry factors) areas matrix))
+Inv-loop self matrix factors areas next₀ carbon₀ j₀ next carbon j = SoFar areas matrix factors next (carbon .0) j
 
 abbrev μ-loop : tie.MeasureT-loop
 μ-loop self matrix factors areas next₀ carbon₀ j₀ next carbon j = 12 - j
 
 loop-holds : tie.Need-loop-holds Inv-loop μ-loop
 unfolding listed
-loop-holds c = (search needs, refl, refl, sym (sum-none _))
+loop-holds c = record { bound = search needs; twelve = refl; stored = refl; carbon = sym (sum-none _) }
 
 flows-into-requires : tie.Need-flows-into-requires Inv-loop μ-loop
 flows-into-requires c κs = let (small, (rows, fit)) = c .before .before .before .pre in (omega arith, (rows, (fit, omega arith)))
@@ -47,14 +54,15 @@ array-set-from-next c = search needs
 
 plus-requires : tie.Need-plus-requires Inv-loop μ-loop
 plus-requires c κs =
-    let at-loop = c .before .before .before in
+    let at-column = c .before in
+    let at-loop = at-column .before .before in
     let at-start = at-loop .before .before in
     let a = at-start .args in
     let (small, (rows, fit)) = at-start .pre in
     let carbon = inflowCarbon (entry (a .factors .now)) (a .self .areas) (a .matrix .now) in
     let most = columns-le (a .self .areas) (a .matrix .now) rows (entry (a .factors .now)) 65535 (fitting-le (a .factors .now) fit) in
     let total : areaTotal (a .self .areas) ≤ 1000000000000 = omega arith in
-    omega (arith, c .before .flows-into .ensures .1, sum-next (at-loop .loop .j) carbon, most (at-loop .loop .j + 1) (omega arith), mul-le-mul-right 65535 total)
+    omega (arith, at-column .flows-into .ensures .1, sum-next (at-loop .loop .j) carbon, most (at-loop .loop .j + 1) (omega arith), mul-le-mul-right 65535 total)
 
 add-j : tie.Need-add-j Inv-loop μ-loop
 add-j c = search needs
@@ -70,12 +78,13 @@ loop-again c =
     let a = at-loop .before .before .args in
     let l = at-loop .loop in
     let r = at-column .flows-into in
-    let e : r .result .area ≡ nextUnits (a .self .areas) (a .matrix .now) (l .j) = ap {B = AreaUnits} (λ (n : ℕ). record { 0 = n }) (r .ensures .0) in (
-      search needs,
-      length-set (l .next) _ _ ∙ l .inv .1,
-      rw (add-one, take-suc-set (l .next) (l .j) (r .result .area) (omega arith), l .inv .2, e),
-      omega (arith, r .ensures .1, sum-next (l .j) (inflowCarbon (entry (a .factors .now)) (a .self .areas) (a .matrix .now))),
-    )
+    let e : r .result .area ≡ nextUnits (a .self .areas) (a .matrix .now) (l .j) = ap {B = AreaUnits} (λ (n : ℕ). record { 0 = n }) (r .ensures .0) in
+    record {
+      bound = search needs;
+      twelve = length-set (l .next) _ _ ∙ l .inv .twelve;
+      stored = rw (add-one, take-suc-set (l .next) (l .j) (r .result .area) (omega arith), l .inv .stored, e);
+      carbon = omega (arith, r .ensures .1, sum-next (l .j) (inflowCarbon (entry (a .factors .now)) (a .self .areas) (a .matrix .now)));
+    }
 
 -- the areas after the year, and that they and what rounding lost make up those before it
 all-columns : (c : tie.After-loop Inv-loop μ-loop)
@@ -84,12 +93,15 @@ unfolding nextAreas
 all-columns c =
     let l = c .before .loop in
     let e : l .j ≡ 12 = omega arith in
-    sym (take-all 12 (l .next) (omega arith)) ∙ rw e at (l .inv .2)
+    sym (take-all 12 (l .next) (omega arith)) ∙ rw e at (l .inv .stored)
+
+rows-within : (c : tie.Start Inv-loop μ-loop) → RowsWithin (c .args .matrix .now)
+rows-within c = let (small, (rows, fit)) = c .pre in rows
 
 kept : (c : tie.After-loop Inv-loop μ-loop)
     → let a = c .before .before .before .args in
     areaTotal (c .before .loop .next) + lostArea (a .self .areas) (a .matrix .now) ≡ areaTotal (a .self .areas)
-kept c = let at-start = c .before .before .before in rw (all-columns c) (areas-kept _ _ (at-start .pre .1 .0))
+kept c = rw (all-columns c) (areas-kept _ _ (rows-within (c .before .before .before)))
 
 area-total-requires : tie.Need-area-total-requires Inv-loop μ-loop
 area-total-requires c κs = search needs
@@ -119,7 +131,7 @@ returns c =
     let e : at-end .before .loop .j ≡ 12 = omega arith in
     let lost : c .plus2 .result .0 ≡ a .self .balance .0 + lostArea (a .self .areas) (a .matrix .now) =
     omega (arith, c .plus2 .ensures, at-minus .minus .ensures, at-totals .before .area-total .ensures, at-totals .area-total2 .ensures, kept at-end) in
-    let carbon = rw e at (at-end .before .loop .inv .3) ∙ carbon-columns (entry (a .factors .now)) (a .self .areas) (a .matrix .now) in
+    let carbon = rw e at (at-end .before .loop .inv .carbon) ∙ carbon-columns (entry (a .factors .now)) (a .self .areas) (a .matrix .now) in
     whole (all-columns at-end) lost carbon
 
 pub projected-spec : {M : Type 1} → statement M
