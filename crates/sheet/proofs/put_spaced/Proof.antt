@@ -1,8 +1,8 @@
 -- `sheet::put_spaced` meets its contract: writing the figures left from the place reached gives what writing all of them gives.
 -- Assumes nothing.
 use mathlib.Core.Path.{_≡_}
-use mathlib.Core.List.{_++_}
-use Prim.Native.Nat.{_+_, _-_, _*_, _≤_}
+use mathlib.Core.List.{List, _++_}
+use Prim.Native.Nat.{ℕ, _+_, _-_, _*_, _≤_}
 use native.Mathlib.Omega.{arith}
 use lib.ListN.{length}
 use borrow.Author.Needs.{needs}
@@ -16,10 +16,14 @@ use Rattle.sheet.proofs.SheetLaws.{spaced-none, spaced-more, length-fig
 use Rattle.sheet.proofs.put_spaced.Statement.{statement}
 use Rattle.sheet.proofs.put_spaced.Tie as tie
 
+-- where the figures left are read and written, and what writing them gives
+record Left (result : List ℕ) (source left : ℕ) (out₀ : List ℕ) (at : ℕ) (all out : List ℕ) (place : ℕ) : Type 0 where
+  inside : source + 8 * left ≤ length result
+  room : place + 21 * left ≤ 4096
+  rest : Rest out₀ at all out place (spaced left result source)
+
 abbrev Inv-loop : tie.InvT-loop
-Inv-loop out₀ at k result from left₀ place₀ source₀ out left place source =
-    (source + 8 * left ≤ length result) × (place + 21 * left ≤ 4096)
-    × Rest out₀ at (spaced k result from) out place (spaced left result source)
+Inv-loop out₀ at k result from left₀ place₀ source₀ out left place source = Left result source left out₀ at (spaced k result from) out place
 
 abbrev μ-loop : tie.MeasureT-loop
 μ-loop out₀ at k result from left₀ place₀ source₀ out left place source = left
@@ -34,10 +38,10 @@ next : (c : tie.In-loop Inv-loop μ-loop)
 next c =
     let result = c .before .before .before .args .result .now in
     let now = c .before .loop in
-    rw (spaced-more (now .left) result (now .source) (omega arith)) at (now .inv .2)
+    rw (spaced-more (now .left) result (now .source) (omega arith)) at (now .inv .rest)
 
 loop-holds : tie.Need-loop-holds Inv-loop μ-loop
-loop-holds c = (omega arith, omega arith, rest-all _ _ _)
+loop-holds c = record { inside = omega arith; room = omega arith; rest = rest-all _ _ _ }
 
 put-byte-requires : tie.Need-put-byte-requires Inv-loop μ-loop
 put-byte-requires c κs = omega arith
@@ -65,13 +69,13 @@ loop-again c =
     let bits = at-bits .field64 in
     let figure = rw (bits .ensures) at (c .put-figure .ensures) in
     let short = length-figure (bits .result) in
-    (omega arith, omega arith, rest-less (rest-less (next in-loop) (at-space .put-byte .ensures)) figure)
+    record { inside = omega arith; room = omega arith; rest = rest-less (rest-less (next in-loop) (at-space .put-byte .ensures)) figure }
 
 returns : tie.Need-returns Inv-loop μ-loop
 returns c =
     let now = c .before .loop in
     let none : now .left ≡ 0 = omega arith in
-    rest-none (rw (none, spaced-none) at (now .inv .2))
+    rest-none (rw (none, spaced-none) at (now .inv .rest))
 
 pub put-spaced-spec : {M : Type 1} → statement M
 put-spaced-spec =

@@ -54,7 +54,8 @@ returns c =
     let at-start = at-word .before .before .before .before in
     let given = at-start .args in
     let line = callLine (given .word .now) (given .n) (given .figures .now) in
-    let short = length-call (given .word .now) (given .n) (given .figures .now) (at-start .pre .0) (at-start .fits .n .fits) (at-start .pre .1) in
+    let (word, figures) = at-start .pre in
+    let short = length-call (given .word .now) (given .n) (given .figures .now) word (at-start .fits .n .fits) figures in
     put-start {s = line} (omega arith)
     (put-then (at-word .put-text .ensures)
     (put-then (at-space .put-byte .ensures)
