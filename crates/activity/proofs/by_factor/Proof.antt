@@ -12,10 +12,10 @@ use Rattle.activity.proofs.by_factor.Statement.{statement}
 use Rattle.activity.proofs.by_factor.Tie as tie
 
 product-le : (c : tie.Start) → c .args .grams * c .args .factor ≤ 318630000000000000
-product-le c = omega (arith, mul-le-mul (c .pre .0) (c .pre .1))
+product-le c = let (grams, factor, divisor) = c .pre in omega (arith, mul-le-mul grams factor)
 
 quotient-le : (c : tie.Start) → ceilDiv (c .args .grams * c .args .factor) (c .args .divisor) ≤ 318630000000000000
-quotient-le c = ceilDiv-le _ _ _ (c .pre .2) (omega (arith, mul-le-mul (product-le c) (c .pre .2)))
+quotient-le c = let (grams, factor, divisor) = c .pre in ceilDiv-le _ _ _ divisor (omega (arith, mul-le-mul (product-le c) divisor))
 
 mul-divided-up : tie.Need-mul-divided-up
 mul-divided-up c = omega (arith, product-le c)

@@ -8,7 +8,11 @@ use Rattle.projection.proofs.flow.Statement.{statement}
 use Rattle.projection.proofs.flow.Tie as tie
 
 mul-t3 : tie.Need-mul-t3
-mul-t3 c = let h : c .before .args .area .0 * c .before .args .probability ≤ 1000000000000 * 1000000 = mul-le-mul (c .before .pre .0) (c .before .pre .1) in omega arith
+mul-t3 c =
+    let a = c .before .args in
+    let (small, probable) = c .before .pre in
+    let h : a .area .0 * a .probability ≤ 1000000000000 * 1000000 = mul-le-mul small probable in
+    omega arith
 
 returns : tie.Need-returns
 returns c = search needs

@@ -8,7 +8,11 @@ use Rattle.projection.proofs.released.Statement.{statement}
 use Rattle.projection.proofs.released.Tie as tie
 
 mul-t3 : tie.Need-mul-t3
-mul-t3 c = let h : c .before .args .area .0 * c .before .args .factor ≤ 1000000000000 * 65536 = mul-le-mul (c .before .pre .0) (le-of-lt (c .before .pre .1)) in omega arith
+mul-t3 c =
+    let a = c .before .args in
+    let (small, fit) = c .before .pre in
+    let h : a .area .0 * a .factor ≤ 1000000000000 * 65536 = mul-le-mul small (le-of-lt fit) in
+    omega arith
 
 returns : tie.Need-returns
 returns c = search needs
