@@ -10,11 +10,11 @@ slice-aggregate-print-call : tie.Need-slice-aggregate-print-call
 slice-aggregate-print-call c = search needs
 
 slice-aggregate-print-call-2 : tie.Need-slice-aggregate-print-call-2
-slice-aggregate-print-call-2 c = let in-buffer = c .before .before .before .pre .0 in lent _ _ in-buffer
+slice-aggregate-print-call-2 c = let (in-buffer, few) = c .before .before .before .pre in lent _ _ in-buffer
 
 print-call-requires : tie.Need-print-call-requires
 print-call-requires c κs =
-    let few = c .before .before .before .pre .1 in
+    let (in-buffer, few) = c .before .before .before .pre in
     (omega arith, omega (arith, few, slice-aggregate-print-call-2 c))
 
 is-filled-requires : tie.Need-is-filled-requires

@@ -17,7 +17,11 @@ fill-option-one-requires : tie.Need-fill-option-one-requires
 fill-option-one-requires c κs = search needs
 
 returns-2 : tie.Need-returns-2
-returns-2 c = let k = option-one _ _ _ (c .before .before .if1 .left) (c .fill-option-one .ensures) in (k .0, (c .before .before .before .before .pre .0, k .1))
+returns-2 c =
+    let at-option = c .before .before in
+    let (inside, long) = at-option .before .before .pre in
+    let (judged, in-use) = option-one _ _ _ (at-option .if1 .left) (c .fill-option-one .ensures) in
+    (judged, (inside, in-use))
 
 pub read-matrix-under-spec : {M : Type 1} → statement M
 read-matrix-under-spec =

@@ -60,8 +60,9 @@ returns-3 c =
     let b = rw (at-found .found2 .given .1) at (at-areas .read-areas .ensures) in
     let q = rw (at-answer .answer2 .given .1) at (at-matrix .read-matrix-under .ensures) in
     let a = at-start .args in
+    let (inside, summed) = at-start .pre in
     let belt = at-areas .read-areas .result .areas in
-    let of-terms = settled-terms _ (a .areas) belt (matrixOf (a .h .option) _) _ _ _ _ (at-stocks .carbon-stocks .ensures) (q .1 .1) (at-start .pre .1) (b .1 .1) in
+    let of-terms = settled-terms _ (a .areas) belt (matrixOf (a .h .option) _) _ _ _ _ (at-stocks .carbon-stocks .ensures) (q .1 .1) summed (b .1 .1) in
     let of-state = settled-state _ (a .areas) belt (matrixOf (a .h .option) _) _ _ (at-project .at-inception .ensures) (c .at-inception2 .ensures) in
     (opening-read _ _ _ _ _ (b .0) _ _ _ _ (q .0) of-terms of-state, q .1 .0)
 
