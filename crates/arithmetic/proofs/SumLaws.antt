@@ -64,15 +64,17 @@ sum-part m (suc n) f h = go (eq-or-lt-of-le h) (λ k. sum-part m n f k)
 pub term-le : (n : ℕ) (f : ℕ → ℕ) (i : ℕ) → i < n → f i ≤ sum n f
 term-le n f i h = omega (arith, sum-next i f, sum-part (i + 1) n f (omega arith))
 
+-- the first m terms and the k after them
+pub sum-split : (m k : ℕ) (f : ℕ → ℕ) → sum (m + k) f ≡ sum m f + sum k (λ j. f (m + j))
+unfolding sum
+sum-split m zero f = let e : m + 0 ≡ m = omega arith in rw e (omega arith)
+sum-split m (suc k) f = let e : m + suc k ≡ suc (m + k) = omega arith in rw e (omega (arith, sum-split m k f))
+
 -- n × m terms are n rows of m
 pub sum-rows : (n m : ℕ) (f : ℕ → ℕ) → sum (n * m) f ≡ sum n (λ i. sum m (λ j. f (m * i + j)))
 unfolding sum
 sum-rows zero m f = let e : 0 * m ≡ 0 = omega arith in rw e refl
-sum-rows (suc n) m f = let e : suc n * m ≡ m * n + m = omega arith in let e′ : n * m ≡ m * n = omega arith in rw e (omega (arith, rw e′ at (sum-rows n m f), row m))
-  where
-    row : (k : ℕ) → sum (m * n + k) f ≡ sum (m * n) f + sum k (λ j. f (m * n + j))
-    row zero = let e : m * n + 0 ≡ m * n = omega arith in rw e (omega arith)
-    row (suc k) = let e : m * n + suc k ≡ suc (m * n + k) = omega arith in rw e (omega (arith, row k))
+sum-rows (suc n) m f = let e : suc n * m ≡ m * n + m = omega arith in let e′ : n * m ≡ m * n = omega arith in rw e (omega (arith, rw e′ at (sum-rows n m f), sum-split (m * n) m f))
 
 -- ---- double sums over n × n
 abbrev pub sum2 : ℕ → (ℕ → ℕ → ℕ) → ℕ

@@ -22,4 +22,3 @@ pub mod Pieces
 pub mod Causes
 pub mod Numbers
 pub mod Examples
-pub mod LoopLaws

@@ -1,12 +1,13 @@
--- MP: what is accepted is exactly the encoding of a matrix in range.
+-- MP: what is accepted is exactly the encoding of a matrix in range, and a row with another sum is 5.
 -- Assumes nothing.
 use Prim.Native.Nat.{ℕ, zero, suc, _+_, _*_, _/_, _%_, _^_, _<_}
 use mathlib.Core.Path.{_≡_, refl, _∙_}
+use mathlib.Core.Bool.{Bool, true, false, cond}
 use mathlib.Core.Logic.{_⊎_, inl, inr}
 use mathlib.Core.List.{List, _++_, append-nil}
 use native.Mathlib.Nat.{eq-or-lt-of-le, le-of-suc-le-suc}
 use native.Mathlib.Omega.{arith}
-use lib.Dec.{lit<}
+use lib.Dec.{eqb, lit<}
 use lib.ListN.{length, getD}
 use Rattle.arithmetic.specs.Sum.{sum}
 use Rattle.arithmetic.proofs.SumLaws.{term-le}
@@ -14,7 +15,7 @@ use Rattle.classes.specs.Classes.{classes}
 use Rattle.classes.specs.Matrix.{entry, million, RowsSum}
 use Rattle.wire.specs.Bytes.{joined}
 use Rattle.dossier.specs.Records.{MatrixInRange, matrixBytes}
-use Rattle.dossier.specs.Reader.{accepted, Reader, _>>_, give, equal}
+use Rattle.dossier.specs.Reader.{Judged, refused, accepted, Reader, after, _>>_, give, equal}
 use Rattle.dossier.specs.JudgingRecords.{rows, matrix}
 use Rattle.wire.proofs.BytesLaws.{Below, below-entries, length-each}
 use Rattle.dossier.proofs.ReaderLaws.{step, was, equal-yes, equal-only}
@@ -42,6 +43,32 @@ rows-only (suc k) xs s e =
     row : (i : ℕ) → RowsTo k xs → sum classes (entry xs k) ≡ million → (i ≡ k) ⊎ (i < k) → sum classes (entry xs i) ≡ million
     row i a b (inl e) = rw e b
     row i a b (inr l) = a i l
+
+row-either : (x y : ℕ) (s : List ℕ) → (equal 5 x y s ≡ accepted tt s) ⊎ (equal 5 x y s ≡ refused 5)
+unfolding equal
+row-either x y s = go (eqb x y)
+  where
+    go : (b : Bool) → (cond b (accepted (tt {0}) s) (refused 5) ≡ accepted tt s) ⊎ (cond b (accepted (tt {0}) s) (refused 5) ≡ refused 5)
+    go true = inl refl
+    go false = inr refl
+
+rows-either : (k : ℕ) (xs s : List ℕ) → (rows k xs s ≡ accepted tt s) ⊎ (rows k xs s ≡ refused 5)
+unfolding rows give _>>_
+rows-either zero xs s = inl refl
+rows-either (suc k) xs s = go (rows k xs s) (rows-either k xs s)
+  where
+    go : (j : Judged (Unit {0})) → (j ≡ accepted tt s) ⊎ (j ≡ refused 5)
+        → (after j (λ _. equal 5 (sum classes (entry xs k)) million) ≡ accepted tt s) ⊎ (after j (λ _. equal 5 (sum classes (entry xs k)) million) ≡ refused 5)
+    go j (inl e) = rw e (row-either _ _ s)
+    go j (inr e) = inr (rw e)
+
+-- one of the first k rows has another sum: 5
+pub rows-wrong : (k : ℕ) (xs s : List ℕ) (i : ℕ) → i < k → (sum classes (entry xs i) ≡ million → ⊥) → rows k xs s ≡ refused 5
+rows-wrong k xs s i l f = go (rows-either k xs s)
+  where
+    go : (rows k xs s ≡ accepted tt s) ⊎ (rows k xs s ≡ refused 5) → rows k xs s ≡ refused 5
+    go (inl e) = absurd (f (rows-only k xs s e .0 i l))
+    go (inr e) = e
 
 rows-then : {B : Type 0} {C : B → Type 0} {P : B → List ℕ → Type 0} {n : ℕ} {r : Reader B} {e : B → List ℕ} (k : ℕ) (xs : List ℕ)
     → ((b : B) (t : List ℕ) → C b → P b t → RowsTo k xs) → (RowsTo k xs → Exact n C r e P) → Exact n C (rows k xs >> r) e P

@@ -8,11 +8,11 @@ use native.Mathlib.Omega.{arith}
 use lib.ListN.{length, take, drop, set}
 use lib.Seq.{take-suc-set}
 use Rattle.wire.specs.Bytes.{numbers, total}
+use Rattle.wire.proofs.NumbersLaws.{total-le}
 use Rattle.classes.specs.declared.AreaUnits.{AreaUnits}
 use Rattle.dossier.specs.Reader.{refused, accepted, _>>_, give, begin, within}
 use Rattle.dossier.specs.JudgingRecords.{areas}
 use Rattle.dossier.proofs.ReaderLaws.{within-yes, within-above, within-below}
-use Rattle.dossier.proofs.LoopLaws.{total-le}
 use Rattle.cursor.specs.Answers.{begunSays}
 use Rattle.cursor.proofs.AtLaws.{begun-no, begun-yes, fields-is}
 use Rattle.opening.specs.Answers.{amounts}

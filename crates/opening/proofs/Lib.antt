@@ -1,4 +1,3 @@
-pub mod NumbersLaws
 pub mod HeadLaws
 pub mod AreasLaws
 pub mod MatrixLaws

@@ -15,12 +15,13 @@ use Rattle.classes.specs.Classes.{classes}
 use Rattle.classes.specs.Matrix.{entry, million, optionOneMatrix}
 use Rattle.wire.specs.Bytes.{numbers, total, fieldAt}
 use Rattle.wire.proofs.BytesLaws.{length-numbers, getD-numbers}
+use Rattle.wire.proofs.NumbersLaws.{numbers-add, total-entries}
 use Rattle.dossier.specs.Marks.{MP}
 use Rattle.dossier.specs.Records.{matrixInUse}
-use Rattle.dossier.specs.Reader.{Judged, refused, accepted, _>>=_, _>>_, give, begin}
+use Rattle.dossier.specs.Reader.{refused, accepted, _>>=_, _>>_, give, begin}
 use Rattle.dossier.specs.JudgingRecords.{rows, matrix, matrixUnder}
 use Rattle.dossier.proofs.ReaderLaws.{equal-yes}
-use Rattle.dossier.proofs.LoopLaws.{numbers-add, total-entries, rows-wrong}
+use Rattle.dossier.proofs.MatrixLaws.{rows-wrong}
 use Rattle.cursor.specs.Answers.{begunSays}
 use Rattle.cursor.proofs.AtLaws.{begun-no, begun-yes, fields-is}
 use Rattle.opening.specs.declared.MatrixAnswer.{MatrixAnswer}

@@ -1,6 +1,6 @@
 -- A region from its opening on: its areas and its balance make up the area it started from.
 -- Assumes nothing.
-use Prim.Native.Nat.{ℕ, zero, suc, _+_, _≤_}
+use Prim.Native.Nat.{ℕ, zero, suc, _+_}
 use mathlib.Core.Path.{_≡_, refl, _∙_, sym}
 use mathlib.Core.List.{List, [], _∷_}
 use native.Mathlib.Omega.{arith}
@@ -13,7 +13,7 @@ use Rattle.projection.specs.Projection.{area, areaTotal, nextAreas, openedRegio
 use Rattle.projection.specs.Ranges.{SmallArea, RowsWithin}
 use Rattle.projection.proofs.ProjectionLaws.{areas-kept}
 use Rattle.wire.specs.Bytes.{total}
-use Rattle.dossier.proofs.LoopLaws.{total-entries}
+use Rattle.wire.proofs.NumbersLaws.{total-entries}
 use Rattle.dossier.specs.Records.{units}
 
 -- a region that started from an area, with a place for each class

@@ -19,7 +19,7 @@ use Rattle.figures.proofs.CountedLaws.{small-counted}
 use Rattle.figures.proofs.FiguresLaws.{FiguresSmall, figures-small, projected-small, calendar-days, reference-small, emissions-small, monitored-small}
 use Rattle.dossier.specs.Records.{Due, ConversionsInRange, YearInRange}
 use Rattle.dossier.specs.Claims.{DueInRange}
-use Rattle.dossier.proofs.LoopLaws.{total-entries}
+use Rattle.wire.proofs.NumbersLaws.{total-entries}
 
 -- by stocks of 16 bits, and a matrix whose rows sum to at most 1,000,000
 module _ (t : Terms) (stocks : (i : ℕ) → getD (t .stocks) i 0 ≤ 65535) (rows : RowsWithin (t .matrix)) (due : Due) (settled : DueInRange due) (y : Year) (h : YearInRange due y) where

@@ -1,3 +1,4 @@
 pub mod BytesLaws
+pub mod NumbersLaws
 pub mod FieldLaws
 pub mod SignedLaws

@@ -19,9 +19,9 @@ use Rattle.figures.specs.Figures.{monitoredCarbon}
 use Rattle.figures.proofs.FiguresLaws.{monitored-places}
 use Rattle.wire.specs.Bytes.{numbers, total, fieldAt}
 use Rattle.wire.proofs.BytesLaws.{getD-numbers}
-use Rattle.dossier.specs.Reader.{Judged, refused, accepted, _>>=_, give, begin}
+use Rattle.wire.proofs.NumbersLaws.{next-number, total-le}
+use Rattle.dossier.specs.Reader.{Judged, refused, accepted, give, begin}
 use Rattle.dossier.specs.JudgingRecords.{conversions}
-use Rattle.dossier.proofs.LoopLaws.{total-more, total-le}
 use Rattle.cursor.specs.Answers.{begunSays}
 use Rattle.dossier.proofs.ReaderLaws.{bind-no, bind-yes}
 use Rattle.cursor.proofs.AtLaws.{begun-no, begun-yes, reading}
@@ -51,10 +51,7 @@ weight-all s factors at =
 -- ---- one conversion more: x from its place, its carbon c
 module _ (s : List ℕ) (at k x : ℕ) (ex : x ≡ fieldAt 8 s (at + 2 + 8 * k)) where
   pub one-more : (left all : ℕ) → total (cells s at k) + left ≡ all → total (cells s at (suc k)) + left ≡ all + x
-  unfolding fieldAt
-  one-more left all h =
-      let p : at + 2 + k * 8 ≡ at + 2 + 8 * k = omega arith in
-      omega (arith, total-more k 8 s (at + 2) x (rw p ex))
+  one-more left all h = omega (arith, next-number 8 k s (at + 2) x ex .1)
 
   pub weighed : (factors : List ℕ) (carbon c : ℕ) → carbon ≡ weight s factors at k → c ≡ x * getD factors k 0 → carbon + c ≡ weight s factors at (k + 1)
   weighed factors carbon c e f = omega (arith, sum-next k (λ i. fieldAt 8 s (at + 2 + 8 * i) * getD factors i 0), f ∙ ap (λ (n : ℕ). n * getD factors k 0) ex)

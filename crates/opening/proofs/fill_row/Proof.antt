@@ -11,7 +11,7 @@ use borrow.Author.Needs.{needs}
 use Rattle.arithmetic.proofs.StoreLaws.{stored-next}
 use Rattle.wire.specs.Bytes.{numbers, total}
 use Rattle.wire.proofs.BytesLaws.{length-numbers}
-use Rattle.opening.proofs.NumbersLaws.{next-number}
+use Rattle.wire.proofs.NumbersLaws.{next-number}
 use Rattle.opening.proofs.fill_row.Statement.{statement}
 use Rattle.opening.proofs.fill_row.Tie as tie
 

@@ -9,7 +9,7 @@ use lib.Seq.{take-all}
 use borrow.Author.Needs.{needs}
 use Rattle.wire.specs.Bytes.{numbers, total}
 use Rattle.opening.specs.Answers.{amounts}
-use Rattle.opening.proofs.NumbersLaws.{next-number}
+use Rattle.wire.proofs.NumbersLaws.{next-number}
 use Rattle.opening.proofs.AreasLaws.{SoFar, amounts-next, areas-no, areas-above, areas-below, areas-read}
 use Rattle.opening.proofs.read_areas.Statement.{statement}
 use Rattle.opening.proofs.read_areas.Tie as tie
