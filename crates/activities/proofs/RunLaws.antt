@@ -26,8 +26,7 @@ use Rattle.dossier.specs.Judging.{activities}
 use Rattle.dossier.proofs.RunLaws.{activities-are, activities-step}
 use Rattle.dossier.proofs.Refusals.{sixty-first}
 use Rattle.dossier.proofs.ActivityLaws.{activity-is, under-range}
-use Rattle.dossier.proofs.ReaderLaws.{bind-no, bind-yes}
-use Rattle.cursor.proofs.AtLaws.{stands-short, stands-here}
+use Rattle.dossier.proofs.ReaderLaws.{bind-no, bind-yes, stands-short, stands-here}
 use Rattle.activities.specs.Answers.{activitySays, activityInside, summedActivities}
 use Rattle.activities.specs.declared.ActivityAnswer.{ActivityAnswer}
 
@@ -71,12 +70,16 @@ module _ {s : List ℕ} {at : ℕ} {grams : Grams} {count : ℕ} (l : SoFar s at
 
   -- no mark stands at `at`
   pub ended : length s - at < 2 → accepted grams (drop at s) ≡ summedActivities s
-  ended h = over (stands-short activityMark s at h)
+  ended h = over (stands-short activityMark (drop at s) (rw length-drop h))
 
   -- the mark m does; b says whether it is that of an activity record
   module _ (m : ℕ) (long : 2 ≤ length s - at) (e : m ≡ fieldAt 2 s at) (b : Bool) (h : b ≡ activityMark m) where
+    two : 2 ≤ length (drop at s)
+    two = rw length-drop long
+
     due-is : stands activityMark (drop at s) ≡ b
-    due-is = stands-here activityMark s at m long e ∙ sym h
+    unfolding fieldAt
+    due-is = stands-here activityMark (drop at s) two ∙ rw (← e) (sym h)
 
     pub other : b ≡ false → accepted grams (drop at s) ≡ summedActivities s
     other f = over (due-is ∙ f)
@@ -92,9 +95,7 @@ module _ {s : List ℕ} {at : ℕ} {grams : Grams} {count : ℕ} (l : SoFar s at
 
         activity-says : activity (drop at s) ≡ activitySays s r
         unfolding fieldAt
-        activity-says =
-            let two : 2 ≤ length (drop at s) = rw length-drop long in
-            rw (activity-is (drop at s) two, ← e, drop-drop) (sym says)
+        activity-says = rw (activity-is (drop at s) two, ← e, drop-drop) (sym says)
 
         -- a record that is refused
         pub faulty : (n : ℕ) → r ≡ ActivityAnswer.Refused n → refused n ≡ summedActivities s

@@ -1,16 +1,16 @@
 -- Readers at a place of the bytes, in the terms of the code that reads there.
 -- Assumes nothing.
-use Prim.Native.Nat.{ℕ, _+_, _*_, _-_, _<_, _≤_}
+use Prim.Native.Nat.{ℕ, _+_, _*_}
 use mathlib.Core.Path.{_≡_, refl}
 use mathlib.Core.Bool.{Bool, true, false, cond}
 use mathlib.Core.List.{List}
 use native.Mathlib.Nat.{add-assoc}
 use lib.Dec.{eqb}
-use lib.ListN.{length, drop, length-drop}
+use lib.ListN.{drop}
 use lib.Seq.{drop-drop}
-use borrow.Author.Tests.{lt-ltb, le-ltb, eq-eqb, ne-eqb}
+use borrow.Author.Tests.{eq-eqb, ne-eqb}
 use Rattle.wire.specs.Bytes.{numbers, fieldAt}
-use Rattle.dossier.specs.Reader.{Judged, refused, accepted, Reader, after, _>>=_, _>>_, give, stands, begin, field, fields, outside, within, equal}
+use Rattle.dossier.specs.Reader.{Judged, refused, accepted, Reader, after, _>>=_, _>>_, give, begin, field, fields, outside, within, equal}
 use Rattle.cursor.specs.Answers.{numberSays, begunSays}
 
 -- ---- what a number says of a reader r, and of what follows it
@@ -61,15 +61,6 @@ unfolding give
 give-is a s = refl
 
 pub ruleset reading = (field-is, fields-is, within-is, equal-is, give-is, add-assoc)
-
--- ---- whether a mark of some kind stands at a place
-pub stands-short : (kind : ℕ → Bool) (s : List ℕ) (at : ℕ) → length s - at < 2 → stands kind (drop at s) ≡ false
-unfolding stands
-stands-short kind s at h = let k : length (drop at s) < 2 = rw length-drop h in simp (lt-ltb _ _ k)
-
-pub stands-here : (kind : ℕ → Bool) (s : List ℕ) (at x : ℕ) → 2 ≤ length s - at → x ≡ fieldAt 2 s at → stands kind (drop at s) ≡ kind x
-unfolding stands fieldAt
-stands-here kind s at x h e = let k : 2 ≤ length (drop at s) = rw length-drop h in simp (le-ltb _ _ k, ← e)
 
 -- ---- an answer that was told: what the judgement is by it, and what holds of it
 pub told : {X A : Type 0} (says : X → Judged A) (holds : X → Type 0) {r x : X} {j : Judged A} → r ≡ x → (says r ≡ j) × holds r → (says x ≡ j) × holds x

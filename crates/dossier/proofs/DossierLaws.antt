@@ -6,7 +6,7 @@ use mathlib.Core.Bool.{Bool, true, false, cond}
 use mathlib.Core.List.{List, [], _∷_, _++_, map, append-assoc, append-nil}
 use native.Mathlib.Omega.{arith}
 use lib.Dec.{lit<}
-use lib.ListN.{length}
+use lib.ListN.{length, length-append}
 use Rattle.classes.specs.Classes.{greatestArea}
 use Rattle.figures.specs.Year.{Year}
 use Rattle.figures.specs.Reckoning.{afterFigures, afterYear}
@@ -17,8 +17,9 @@ use Rattle.dossier.specs.Claims.{DueInRange}
 use Rattle.dossier.specs.Reader.{accepted, after, _>>=_, _>>_, give, mark, is, stands, upon, nothing}
 use Rattle.dossier.specs.JudgingRecords.{activityMark}
 use Rattle.dossier.specs.Judging.{opening, noneLeft, year, end, years, dossier, openingPiece, yearPiece}
-use Rattle.wire.proofs.BytesLaws.{bytes-after}
-use Rattle.dossier.proofs.ReaderLaws.{step, was, mark-yes, mark-only, stands-bytes, nothing-only}
+use Rattle.wire.proofs.BytesLaws.{bytes-after, length-bytes, take-bytes}
+use Rattle.dossier.proofs.ReaderLaws.{step, was, mark-only, stands-bytes, nothing-only}
+use Rattle.dossier.proofs.Refusals.{end-there}
 use Rattle.dossier.proofs.Exact.{Exact}
 use Rattle.dossier.proofs.ExactParts.{Any, sub-then, last-then, recoded, piece-exact}
 use Rattle.dossier.proofs.OpeningLaws.{opening-exact}
@@ -27,8 +28,7 @@ use Rattle.dossier.proofs.YearLaws.{YearThen, none-left-only, year-exac
 
 -- ---- EN
 end-yes : end (bytes 2 EN ++ []) ≡ accepted tt []
-unfolding end upon nothing _>>_
-end-yes = rw (stands-bytes (is YR) EN [] (lit< tt), mark-yes EN [] (lit< tt))
+end-yes = end-there (bytes 2 EN ++ []) (simp (length-append, length-bytes) (omega arith)) (take-bytes 2 EN [] (lit< tt)) (simp (length-append, length-bytes) (omega arith))
 
 end-only : (s : List ℕ) → Bytes s → {x : Unit {0}} {t : List ℕ} → end s ≡ accepted x t → (s ≡ bytes 2 EN) × (t ≡ [])
 unfolding end upon _>>_

@@ -5,7 +5,6 @@ use mathlib.Core.Path.{_≡_, refl, _∙_, ap, sym}
 use mathlib.Core.Bool.{cond}
 use mathlib.Core.List.{List, [], _∷_, _++_, map, append-assoc, append-nil}
 use native.Mathlib.Omega.{arith}
-use borrow.Author.Tests.{lt-ltb}
 use lib.Dec.{ltb, lit<}
 use lib.ListN.{length, take, length-append}
 use Rattle.figures.specs.Year.{Year}
@@ -13,12 +12,12 @@ use Rattle.wire.specs.Bytes.{number, bytes, joined}
 use Rattle.dossier.specs.Marks.{YR, EN}
 use Rattle.dossier.specs.Records.{Opening, OpeningInRange, openingBytes, Due, settled, next, YearInRange, yearBytes, YearsInRange}
 use Rattle.dossier.specs.Claims.{DueInRange}
-use Rattle.dossier.specs.Reader.{refused, accepted, Reader, _>>=_, _>>_, give, stands, endOfPiece}
+use Rattle.dossier.specs.Reader.{refused, accepted, Reader, _>>=_, _>>_, give, endOfPiece}
 use Rattle.dossier.specs.JudgingRecords.{activityMark}
 use Rattle.dossier.specs.Judging.{opening, year, years, dossier, openingPiece, yearPiece}
 use Rattle.wire.proofs.BytesLaws.{length-bytes, take-bytes}
-use Rattle.dossier.proofs.ReaderLaws.{bind-no, stands-bytes}
-use Rattle.dossier.proofs.Refusals.{year-short, year-other, end-none-left, after-end, lone-byte, beyond-piece}
+use Rattle.dossier.proofs.ReaderLaws.{bind-no, stands-short, stands-bytes}
+use Rattle.dossier.proofs.Refusals.{year-short, year-other, end-none-left, end-followed, lone-byte, beyond-piece}
 use Rattle.dossier.proofs.OpeningLaws.{opening-exact}
 use Rattle.dossier.proofs.RunLaws.{Over}
 use Rattle.dossier.proofs.YearLaws.{year-exact, year-begins}
@@ -82,8 +81,7 @@ module _ (o : Opening) (p : OpeningInRange o) (l : List Year) (q : YearsInRange 
 
   -- the bytes end where a mark is needed
   pub ends-early : length l < o .head .years → (t : List ℕ) → length t < 2 → dossier (so-far t) ≡ refused 1
-  unfolding stands
-  ends-early h t s = year-fault h t (simp (lt-ltb _ _ s)) 1 (year-short then-due t s)
+  ends-early h t s = year-fault h t (stands-short activityMark t s) 1 (year-short then-due t s)
 
   -- n years are given: "YR stays due there and gives 6", or 1 where it is cut
   pub late-year : length l ≡ o .head .years → (t : List ℕ) → dossier (so-far (bytes 2 YR ++ t)) ≡ refused (cond (ltb (length t) 4) 1 6)
@@ -97,7 +95,7 @@ module _ (o : Opening) (p : OpeningInRange o) (l : List Year) (q : YearsInRange 
   unfolding activityMark
   beyond-end h b t =
       dossier-continues 0 (omega arith) _ (stands-bytes activityMark EN (b ∷ t) (lit< tt)) 2
-      (unfold years _>>_ in rw (after-end b t))
+      (unfold years _>>_ in rw (end-followed (bytes 2 EN ++ (b ∷ t)) (simp (length-append, length-bytes) (omega arith)) (take-bytes 2 EN (b ∷ t) (lit< tt)) (simp (length-append, length-bytes) (omega arith))))
 
 -- ---- after a piece: "a lone byte left over there is 1, any mark beyond the piece 2"
 piece-fault : {A : Type 0} (r : Reader A) (s : List ℕ) {a : A} {t : List ℕ} (n : ℕ) → r s ≡ accepted a t → endOfPiece t ≡ refused n → (r >>= λ a. endOfPiece >> give a) s ≡ refused n
@@ -116,10 +114,7 @@ module _ (o : Opening) (p : OpeningInRange o) where
 module _ (due : Due) (h : DueInRange due) (y : Year) (p : YearInRange due y) where
   pub year-lone : (b : ℕ) → yearPiece due (yearBytes y ++ (b ∷ [])) ≡ refused 1
   unfolding yearPiece
-  year-lone b = piece-fault (year due) _ 1 (year-exact due h .reads y (b ∷ []) tt (p, alone b)) (lone-byte (b ∷ []) refl)
-    where
-      alone : (b : ℕ) → Over (b ∷ [])
-      alone b = unfold stands in refl
+  year-lone b = piece-fault (year due) _ 1 (year-exact due h .reads y (b ∷ []) tt (p, stands-short activityMark (b ∷ []) (omega arith))) (lone-byte (b ∷ []) refl)
 
   pub year-beyond : (b c : ℕ) (t : List ℕ) → Over (b ∷ c ∷ t) → yearPiece due (yearBytes y ++ (b ∷ c ∷ t)) ≡ refused 2
   unfolding yearPiece

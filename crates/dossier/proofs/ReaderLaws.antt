@@ -168,15 +168,16 @@ unfolding equal
 equal-only n x y s e = let p = cond-accepted (eqb x y) _ _ e in (eqb-true _ _ (p .0), was (p .1) .1)
 
 -- ---- what stands before bytes, and the ends
-pub stands-bytes : (kind : ℕ → Bool) (m : ℕ) (t : List ℕ) → m < 65536 → stands kind (bytes 2 m ++ t) ≡ kind m
+pub stands-short : (kind : ℕ → Bool) (s : List ℕ) → length s < 2 → stands kind s ≡ false
 unfolding stands
-stands-bytes kind m t h =
-    let l : 2 ≤ length (bytes 2 m ++ t) = simp (length-append, length-bytes) (omega arith) in
-    simp (le-ltb _ _ l, take-bytes 2 m t h)
+stands-short kind s h = simp (lt-ltb _ _ h)
 
-pub stands-nothing : (kind : ℕ → Bool) → stands kind [] ≡ false
+pub stands-here : (kind : ℕ → Bool) (s : List ℕ) → 2 ≤ length s → stands kind s ≡ kind (number (take 2 s))
 unfolding stands
-stands-nothing kind = refl
+stands-here kind s h = simp (le-ltb _ _ h)
+
+pub stands-bytes : (kind : ℕ → Bool) (m : ℕ) (t : List ℕ) → m < 65536 → stands kind (bytes 2 m ++ t) ≡ kind m
+stands-bytes kind m t h = stands-here kind (bytes 2 m ++ t) (simp (length-append, length-bytes) (omega arith)) ∙ ap kind (take-bytes 2 m t h)
 
 pub nothing-only : (s : List ℕ) {x : Unit {0}} {t : List ℕ} → nothing s ≡ accepted x t → (s ≡ []) × (t ≡ [])
 unfolding nothing

@@ -1,21 +1,22 @@
 -- The number of each refusal, where document 01 says it ("Causes and numbers", "Calls and sheet", "Slips seen in the old product").
 -- Assumes nothing.
-use Prim.Native.Nat.{ℕ, suc, _≤_, _<_}
+use Prim.Native.Nat.{ℕ, _-_, _≤_, _<_}
 use mathlib.Core.Path.{_≡_, refl, _∙_, sym}
 use mathlib.Core.Bool.{Bool, true, false, cond}
 use mathlib.Core.List.{List, [], _∷_, _++_}
 use native.Mathlib.Omega.{arith}
 use borrow.Author.Tests.{lt-ltb, le-ltb, eq-eqb, ne-eqb}
 use lib.Dec.{ltb, eqb, lit<}
-use lib.ListN.{length, take, drop}
+use lib.ListN.{length, take, drop, length-append, length-drop, drop-of-length-le}
 use Rattle.activity.specs.declared.Activity.{Activity}
 use Rattle.wire.specs.Bytes.{number, bytes}
+use Rattle.wire.proofs.BytesLaws.{length-bytes, take-bytes}
 use Rattle.dossier.specs.Marks.{YR, EN}
 use Rattle.dossier.specs.Records.{Due}
 use Rattle.dossier.specs.Reader.{refused, accepted, after, _>>_, refuse, mark, stands, is, upon, present, begin, nothing, endOfPiece}
 use Rattle.dossier.specs.JudgingRecords.{activityMark}
 use Rattle.dossier.specs.Judging.{run, activities, noneLeft, yearRecords, yearLeft, year, end}
-use Rattle.dossier.proofs.ReaderLaws.{no, was, mark-yes, stands-bytes}
+use Rattle.dossier.proofs.ReaderLaws.{no, was, mark-yes, stands-short, stands-here}
 
 -- "mark, .., bytes missing": 1 where the mark is cut, 2 where it is another, however few bytes follow, 1 where the record is cut
 module _ (m n : ℕ) (s : List ℕ) where
@@ -60,10 +61,6 @@ pub year-none-left : (due : Due) (t : List ℕ) → due .state .left ≡ 0 → y
 unfolding year yearLeft
 year-none-left due t h = rw (eq-eqb _ _ h) (none-left t)
 
-pub end-none-left : (t : List ℕ) → end (bytes 2 YR ++ t) ≡ refused (cond (ltb (length t) 4) 1 6)
-unfolding end upon
-end-none-left t = rw (stands-bytes (is YR) YR t (lit< tt)) (none-left t)
-
 -- where a year is due: 1 where the bytes end before or inside its mark, 2 for any other mark, so for EN "before n years"
 pub year-short : (due : Due) (s : List ℕ) → length s < 2 → year due s ≡ refused 1
 unfolding year yearLeft yearRecords noneLeft _>>_
@@ -81,11 +78,40 @@ year-other due s h f = go (eqb (due .state .left) 0)
     go true = rw (begin-other YR 4 s h f)
     go false = rw (begin-other YR 4 s h f)
 
--- ---- the ends: after EN any byte is 2; after a piece a lone byte is 1, more bytes are 2
-pub after-end : (b : ℕ) (t : List ℕ) → end (bytes 2 EN ++ (b ∷ t)) ≡ refused 2
-unfolding end upon nothing _>>_
-after-end b t = rw (stands-bytes (is YR) EN (b ∷ t) (lit< tt), mark-yes EN (b ∷ t) (lit< tt)) (simp (lt-ltb 0 (suc (length t)) (omega arith)))
+-- ---- the ends: where EN is due, 1 where the bytes end before or inside its mark, YR once more, 2 for any other mark, 2 for any byte after EN
+module _ (s : List ℕ) where
+  pub end-short : length s < 2 → end s ≡ refused 1
+  unfolding end upon mark _>>_
+  end-short h = rw (stands-short (is YR) s h) (simp (lt-ltb _ _ h))
 
+  module _ (long : 2 ≤ length s) where
+    pub end-again : number (take 2 s) ≡ YR → end s ≡ noneLeft s
+    unfolding end upon
+    end-again e = rw (stands-here (is YR) s long, eq-eqb _ _ e)
+
+    pub end-other : (number (take 2 s) ≡ YR → ⊥) → (number (take 2 s) ≡ EN → ⊥) → end s ≡ refused 2
+    unfolding end upon mark _>>_
+    end-other f g = rw (stands-here (is YR) s long, ne-eqb _ _ f) (simp (le-ltb _ _ long, ne-eqb _ _ g))
+
+    module _ (e : number (take 2 s) ≡ EN) where
+      end-is : end s ≡ nothing (drop 2 s)
+      unfolding end upon mark _>>_
+      end-is =
+          let f : number (take 2 s) ≡ YR → ⊥ = λ d. let z : EN ≡ YR = sym e ∙ d in omega arith in
+          rw (stands-here (is YR) s long, ne-eqb _ _ f) (simp (le-ltb _ _ long, eq-eqb _ _ e))
+
+      pub end-followed : 2 < length s → end s ≡ refused 2
+      unfolding nothing
+      end-followed h = end-is ∙ simp (length-drop, lt-ltb 0 (length s - 2) (omega arith))
+
+      pub end-there : length s ≤ 2 → end s ≡ accepted tt []
+      unfolding nothing
+      end-there h = end-is ∙ rw (drop-of-length-le s {i = 2} h)
+
+pub end-none-left : (t : List ℕ) → end (bytes 2 YR ++ t) ≡ refused (cond (ltb (length t) 4) 1 6)
+end-none-left t = end-again (bytes 2 YR ++ t) (simp (length-append, length-bytes) (omega arith)) (take-bytes 2 YR t (lit< tt)) ∙ none-left t
+
+-- after a piece a lone byte is 1, more bytes are 2
 module _ (s : List ℕ) where
   pub lone-byte : length s ≡ 1 → endOfPiece s ≡ refused 1
   unfolding endOfPiece

@@ -11,7 +11,7 @@ use lib.ListN.{length, drop, length-append, length-drop}
 use lib.Seq.{take-append-le, drop-append-le}
 use Rattle.wire.specs.Bytes.{numbers}
 use Rattle.dossier.specs.Reader.{Judged, refused, accepted, Reader, after, _>>=_, _>>_, give, refuse, mark, stands, upon, present, field, fields, nothing}
-use Rattle.dossier.proofs.ReaderLaws.{present-yes}
+use Rattle.dossier.proofs.ReaderLaws.{present-yes, stands-here}
 use Rattle.dossier.proofs.Walk.{Closed}
 
 -- the same judgement, and t is left over too
@@ -68,10 +68,9 @@ either true x y = x
 either false x y = y
 
 stands-alike : (kind : ℕ → Bool) (s t : List ℕ) → 2 ≤ length s → stands kind (s ++ t) ≡ stands kind s
-unfolding stands
 stands-alike kind s t h =
     let g : 2 ≤ length (s ++ t) = simp length-append (omega arith) in
-    rw (le-ltb _ _ g, le-ltb _ _ h, take-append-le 2 s t h)
+    rw (stands-here kind (s ++ t) g, stands-here kind s h, take-append-le 2 s t h)
 
 choice : {A : Type 0} {m : ℕ} {r q : Reader A} (kind : ℕ → Bool) → Settles m r → Settles m q → 2 ≤ m → Settles m (upon kind r q)
 unfolding upon

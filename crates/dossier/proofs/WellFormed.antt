@@ -13,7 +13,7 @@ use Rattle.dossier.specs.Claims.{DueInRange, AcceptedExactly}
 use Rattle.dossier.specs.Reader.{Reader}
 use Rattle.dossier.specs.JudgingRecords.{activityMark, activity}
 use Rattle.dossier.specs.Judging.{dossier, openingPiece, yearPiece}
-use Rattle.dossier.proofs.ReaderLaws.{was, stands-nothing}
+use Rattle.dossier.proofs.ReaderLaws.{was, stands-short}
 use Rattle.dossier.proofs.Exact.{Exact}
 use Rattle.dossier.proofs.ExactParts.{Any}
 use Rattle.dossier.proofs.ActivityLaws.{activity-exact}
@@ -37,7 +37,7 @@ pub opening-accepted : AcceptedExactly openingPiece OpeningInRange openingBytes
 opening-accepted = whole openingPiece-exact (λ o t p. p) (λ o p. (p, refl))
 
 pub year-accepted : (due : Due) → DueInRange due → AcceptedExactly (yearPiece due) (YearInRange due) yearBytes
-year-accepted due h = whole (yearPiece-exact due h) (λ y t p. (p .0 .0, p .1)) (λ y p. ((p, stands-nothing activityMark), refl))
+year-accepted due h = whole (yearPiece-exact due h) (λ y t p. (p .0 .0, p .1)) (λ y p. ((p, stands-short activityMark [] (omega arith)), refl))
 
 -- ---- no bytes are those of two values in range
 one : {A : Type 0} {r : Reader A} {Q : A → Type 0} {e : A → List ℕ} → AcceptedExactly r Q e → (a b : A) → Q a → Q b → e a ≡ e b → a ≡ b
