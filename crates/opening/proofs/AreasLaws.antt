@@ -14,7 +14,7 @@ use Rattle.dossier.specs.Reader.{refused, accepted, _>>_, give, begin, within}
 use Rattle.dossier.specs.JudgingRecords.{areas}
 use Rattle.dossier.proofs.ReaderLaws.{within-yes, within-above, within-below}
 use Rattle.cursor.specs.Answers.{begunSays}
-use Rattle.cursor.proofs.AtLaws.{begun-no, begun-yes, fields-is}
+use Rattle.cursor.proofs.AtLaws.{begun-yes, fields-is}
 use Rattle.opening.specs.Answers.{amounts}
 
 -- one area more is stored
@@ -30,10 +30,6 @@ pub record SoFar (s : List ℕ) (at : ℕ) (areas : List AreaUnits) (sum i : ℕ
   pub most : sum ≤ 1000000000000
 
 module _ (s : List ℕ) (at m least r : ℕ) (h : begunSays s at r ≡ begin m 96 (drop at s)) where
-  pub areas-no : (r ≡ 0 → ⊥) → refused r ≡ areas m least (drop at s)
-  unfolding areas
-  areas-no f = begun-no s at m 96 r h _ f
-
   module _ (z : r ≡ 0) where
     abbrev read : List ℕ
     read = numbers 12 8 (drop (at + 2) s)

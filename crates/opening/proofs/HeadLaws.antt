@@ -10,14 +10,10 @@ use Rattle.dossier.specs.Marks.{HD}
 use Rattle.dossier.specs.Reader.{refused, accepted, begin, outside}
 use Rattle.dossier.specs.JudgingRecords.{head}
 use Rattle.cursor.specs.Answers.{begunSays}
-use Rattle.cursor.proofs.AtLaws.{begun-no, begun-yes, reading}
+use Rattle.cursor.proofs.AtLaws.{begun-yes, reading}
 use Rattle.opening.specs.Answers.{headOf}
 
 module _ (s : List ℕ) (r : ℕ) (h : begunSays s 0 r ≡ begin HD 4 s) where
-  pub head-no : (r ≡ 0 → ⊥) → refused r ≡ head s
-  unfolding head
-  head-no f = begun-no s 0 HD 4 r h _ f
-
   module _ (z : r ≡ 0) (o f y : ℕ) (eo : o ≡ fieldAt 1 s 2) (ef : f ≡ fieldAt 2 s 3) (ey : y ≡ fieldAt 1 s 5) where
     head-at : head s ≡
         cond (outside 1 o 2) (refused 3) (cond (outside 2000 f 2200) (refused 3) (cond (outside 1 y 20) (refused 3) (accepted (headOf o f y) (drop 6 s))))

@@ -23,7 +23,7 @@ use Rattle.dossier.specs.JudgingRecords.{rows, matrix, matrixUnder}
 use Rattle.dossier.proofs.ReaderLaws.{equal-yes}
 use Rattle.dossier.proofs.MatrixLaws.{rows-wrong}
 use Rattle.cursor.specs.Answers.{begunSays}
-use Rattle.cursor.proofs.AtLaws.{begun-no, begun-yes, fields-is}
+use Rattle.cursor.proofs.AtLaws.{begun-yes, fields-is}
 use Rattle.opening.specs.declared.MatrixAnswer.{MatrixAnswer}
 use Rattle.opening.specs.Answers.{matrixJudged, matrixFacts, matrixOf, matrixUnderJudged, matrixUnderFacts}
 
@@ -56,10 +56,6 @@ row-at i s at l =
     ∙ sym (rw length-numbers at (total-entries (numbers 12 4 (drop (at + 48 * i) s))))
 
 module _ (s : List ℕ) (at r : ℕ) (h : begunSays s at r ≡ begin MP 576 (drop at s)) where
-  pub matrix-no : (r ≡ 0 → ⊥) → refused r ≡ matrix (drop at s)
-  unfolding matrix
-  matrix-no f = begun-no s at MP 576 r h _ f
-
   module _ (z : r ≡ 0) where
     abbrev read : List ℕ
     read = numbers 144 4 (drop (at + 2) s)

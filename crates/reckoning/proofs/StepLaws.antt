@@ -16,20 +16,8 @@ use Rattle.figures.specs.Figures.{monitoredCarbon, countedFactor}
 use Rattle.figures.specs.Reckoning.{regionReference, tableEmissions, yearFigures, afterYear}
 use Rattle.dossier.specs.Reader.{Judged, refused, accepted, after, _>>=_, give}
 use Rattle.dossier.specs.Judging.{year}
-use Rattle.dossier.proofs.ReaderLaws.{bind-no, bind-yes}
-use Rattle.years.specs.Answers.{Summary, summary, summarizedYear}
-use Rattle.reckoning.specs.declared.Advanced.{Advanced}
+use Rattle.years.specs.Answers.{summary, summarizedYear}
 use Rattle.reckoning.specs.Step.{yearAdvanced, summaryFigures, summaryAdvanced, steppedYear}
-
-module _ (factor counted : ℕ → ℕ → ℕ) (matrix : List ℕ) (start beltstart : ℕ) (state : State) (u : List ℕ) where
-  pub stepped-no : (n : ℕ) → refused n ≡ summarizedYear counted (state .year) (state .left) start beltstart u → refused n ≡ steppedYear factor counted matrix start beltstart state u
-  unfolding steppedYear
-  stepped-no n e = bind-no (summarizedYear counted (state .year) (state .left) start beltstart) _ u n e
-
-  pub stepped-yes : (m : Summary) (v : List ℕ) (a : Advanced) → accepted m v ≡ summarizedYear counted (state .year) (state .left) start beltstart u
-      → a ≡ summaryAdvanced factor matrix m state → accepted a v ≡ steppedYear factor counted matrix start beltstart state u
-  unfolding steppedYear give
-  stepped-yes m v a e f = rw f (bind-yes (summarizedYear counted (state .year) (state .left) start beltstart) _ u m v e)
 
 -- ---- by the tables of the terms, a step is the year's own reckoning
 carbon-same : (f g : ℕ → ℕ → ℕ) (region : Region) (matrix : List ℕ) → ((i j : ℕ) → i < classes → j < classes → f i j ≡ g i j)

@@ -17,7 +17,7 @@ use Rattle.classes.specs.Ranges.{greatestActivity}
 use Rattle.figures.specs.Year.{Year}
 use Rattle.wire.specs.Bytes.{fieldAt}
 use Rattle.dossier.specs.Marks.{YR, CP, CD}
-use Rattle.dossier.specs.Reader.{Judged, refused, accepted, Reader, after, _>>=_, _>>_, give, begin, outside}
+use Rattle.dossier.specs.Reader.{Judged, refused, accepted, Reader, after, _>>=_, give, begin, outside}
 use Rattle.dossier.specs.Claims.{numberOf}
 use Rattle.dossier.specs.JudgingRecords.{conversions}
 use Rattle.dossier.specs.Judging.{activities, noneLeft, yearRecords, yearLeft}
@@ -34,29 +34,14 @@ use Rattle.years.specs.declared.YearAnswer.{YearAnswer}
 use Rattle.years.specs.Answers.{monitoredTable, Summary, summary, summarizedYear, summarizedRecords, summarizedTables, yearSays, recordsInside, tablesInside, yearFits}
 
 -- ---- from CP on
-module _ (factor : ℕ → ℕ → ℕ) (days : OperatingDays) (projectTotal beltTotal : ℕ) (u : List ℕ) where
-  pub project-no : (n : ℕ) → refused n ≡ monitoredTable factor CP projectTotal u → refused n ≡ summarizedTables factor days projectTotal beltTotal u
+module _ (factor : ℕ → ℕ → ℕ) (days : OperatingDays) (projectTotal beltTotal : ℕ) (u : List ℕ) (p : CarbonUnits) (v : List ℕ) (e : accepted p v ≡ monitoredTable factor CP projectTotal u) where
+  pub belt-no : (n : ℕ) → refused n ≡ monitoredTable factor CD beltTotal v → refused n ≡ summarizedTables factor days projectTotal beltTotal u
   unfolding summarizedTables
-  project-no n e = bind-no (monitoredTable factor CP projectTotal) _ u n e
+  belt-no n f = bind-no (monitoredTable factor CD beltTotal) _ v n f ∙ bind-yes (monitoredTable factor CP projectTotal) _ u p v e
 
-  module _ (p : CarbonUnits) (v : List ℕ) (e : accepted p v ≡ monitoredTable factor CP projectTotal u) where
-    pub belt-no : (n : ℕ) → refused n ≡ monitoredTable factor CD beltTotal v → refused n ≡ summarizedTables factor days projectTotal beltTotal u
-    unfolding summarizedTables
-    belt-no n f = bind-no (monitoredTable factor CD beltTotal) _ v n f ∙ bind-yes (monitoredTable factor CP projectTotal) _ u p v e
-
-    pub belt-yes : (b : CarbonUnits) (w : List ℕ) → accepted b w ≡ monitoredTable factor CD beltTotal v → summarizedRecords days p b w ≡ summarizedTables factor days projectTotal beltTotal u
-    unfolding summarizedTables
-    belt-yes b w f = bind-yes (monitoredTable factor CD beltTotal) _ v b w f ∙ bind-yes (monitoredTable factor CP projectTotal) _ u p v e
-
--- ---- from the activity records on
-module _ (days : OperatingDays) (p b : CarbonUnits) (w : List ℕ) where
-  pub run-no : (n : ℕ) → refused n ≡ summedActivities w → refused n ≡ summarizedRecords days p b w
-  unfolding summarizedRecords
-  run-no n g = bind-no summedActivities _ w n g
-
-  pub run-yes : (grams : Grams) (x : List ℕ) → accepted grams x ≡ summedActivities w → accepted (record { days = days; project = p; belt = b; activity = grams }) x ≡ summarizedRecords days p b w
-  unfolding summarizedRecords give
-  run-yes grams x g = bind-yes summedActivities _ w grams x g
+  pub belt-yes : (b : CarbonUnits) (w : List ℕ) → accepted b w ≡ monitoredTable factor CD beltTotal v → summarizedRecords days p b w ≡ summarizedTables factor days projectTotal beltTotal u
+  unfolding summarizedTables
+  belt-yes b w f = bind-yes (monitoredTable factor CD beltTotal) _ v b w f ∙ bind-yes (monitoredTable factor CP projectTotal) _ u p v e
 
 -- the tables and records of a year, and the same summarized
 unfoldable tables : (calendarYear days projectTotal beltTotal : ℕ) → Reader Year

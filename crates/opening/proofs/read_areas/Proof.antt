@@ -8,9 +8,11 @@ use lib.ListN.{drop, length-set}
 use lib.Seq.{take-all}
 use borrow.Author.Needs.{needs}
 use Rattle.wire.specs.Bytes.{numbers, total}
+use Rattle.dossier.specs.JudgingRecords.{areas}
+use Rattle.cursor.proofs.AtLaws.{begun-no}
 use Rattle.opening.specs.Answers.{amounts}
 use Rattle.wire.proofs.NumbersLaws.{next-number}
-use Rattle.opening.proofs.AreasLaws.{SoFar, amounts-next, areas-no, areas-above, areas-below, areas-read}
+use Rattle.opening.proofs.AreasLaws.{SoFar, amounts-next, areas-above, areas-below, areas-read}
 use Rattle.opening.proofs.read_areas.Statement.{statement}
 use Rattle.opening.proofs.read_areas.Tie as tie
 
@@ -43,11 +45,12 @@ no-areas-requires : tie.Need-no-areas-requires Inv-loop μ-loop
 no-areas-requires c κs = search needs
 
 returns : tie.Need-returns Inv-loop μ-loop
+unfolding areas
 returns c =
     let begun = c .before .before in
     let a = at-start begun .args in
     let (says, room) = begun .begun .ensures in
-    rw (c .no-areas .ensures) (areas-no (a .s .now) (a .at) _ _ _ says (c .before .if1 .taken), tt)
+    rw (c .no-areas .ensures) (begun-no (a .s .now) (a .at) _ 96 _ says _ (c .before .if1 .taken), tt)
 
 loop-holds : tie.Need-loop-holds Inv-loop μ-loop
 unfolding numbers total

@@ -2,7 +2,10 @@
 -- Assumes nothing.
 use native.Mathlib.Omega.{arith}
 use borrow.Author.Needs.{needs}
-use Rattle.opening.proofs.HeadLaws.{head-no, option-out, first-out, years-out, head-read}
+use Rattle.dossier.specs.Marks.{HD}
+use Rattle.dossier.specs.JudgingRecords.{head}
+use Rattle.cursor.proofs.AtLaws.{begun-no}
+use Rattle.opening.proofs.HeadLaws.{option-out, first-out, years-out, head-read}
 use Rattle.opening.proofs.read_head.Statement.{statement}
 use Rattle.opening.proofs.read_head.Tie as tie
 
@@ -10,7 +13,8 @@ begun-requires : tie.Need-begun-requires
 begun-requires c κs = search needs
 
 returns : tie.Need-returns
-returns c = (search (needs, head-no), search needs)
+unfolding head
+returns c = (begun-no _ 0 HD 4 _ (c .before .begun .ensures .0) _ (c .if1 .taken), search needs)
 
 field8-requires : tie.Need-field8-requires
 field8-requires c κs = search needs

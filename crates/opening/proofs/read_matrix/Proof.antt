@@ -10,8 +10,10 @@ use lib.Seq.{sets}
 use borrow.Author.Needs.{needs}
 use Rattle.wire.specs.Bytes.{numbers}
 use Rattle.dossier.specs.Reader.{give}
-use Rattle.dossier.specs.JudgingRecords.{rows}
-use Rattle.opening.proofs.MatrixLaws.{RowsRight, next-row, all-rows, matrix-no, row-wrong, row-right, matrix-read}
+use Rattle.dossier.specs.Marks.{MP}
+use Rattle.dossier.specs.JudgingRecords.{rows, matrix}
+use Rattle.cursor.proofs.AtLaws.{begun-no}
+use Rattle.opening.proofs.MatrixLaws.{RowsRight, next-row, all-rows, row-wrong, row-right, matrix-read}
 use Rattle.opening.proofs.read_matrix.Statement.{statement}
 use Rattle.opening.proofs.read_matrix.Tie as tie
 
@@ -41,11 +43,12 @@ begun-requires : tie.Need-begun-requires Inv-loop μ-loop
 begun-requires c κs = search needs
 
 returns : tie.Need-returns Inv-loop μ-loop
+unfolding matrix
 returns c =
     let begun = c .before in
     let a = at-start begun .args in
     let (says, room) = begun .begun .ensures in
-    (matrix-no (a .s .now) (a .at) _ says (c .if1 .taken), tt)
+    (begun-no (a .s .now) (a .at) MP 576 _ says _ (c .if1 .taken), tt)
 
 loop-holds : tie.Need-loop-holds Inv-loop μ-loop
 unfolding numbers rows give

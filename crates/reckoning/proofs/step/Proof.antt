@@ -1,9 +1,11 @@
 -- `reckoning::step` meets its contract: the year is read, then reckoned; the first fault counts.
 -- Assumes nothing.
 use borrow.Author.Needs.{needs}
+use Rattle.dossier.specs.Reader.{give}
+use Rattle.dossier.proofs.ReaderLaws.{bind-no, bind-yes}
 use Rattle.cursor.proofs.AtLaws.{told}
 use Rattle.years.specs.Answers.{yearSays, tablesInside, yearFits}
-use Rattle.reckoning.proofs.StepLaws.{stepped-no, stepped-yes}
+use Rattle.reckoning.specs.Step.{steppedYear}
 use Rattle.reckoning.proofs.step.Statement.{statement}
 use Rattle.reckoning.proofs.step.Tie as tie
 
@@ -30,19 +32,21 @@ advance-requires c κs =
     (pre .1 .0, (pre .1 .1 .0, (pre .1 .1 .1 .0, (project, belt, activity, some, allowed))))
 
 returns : tie.Need-returns
+unfolding steppedYear
 returns c =
     let at-refused = c .before .before in
     let at-read = at-refused .before .before in
-    (stepped-no _ _ _ _ _ _ _ _ (rw (at-refused .n .given .1) at (at-read .read-year .ensures .0)), rw (c .no-figures .ensures))
+    (bind-no _ _ _ _ (rw (at-refused .n .given .1) at (at-read .read-year .ensures .0)), rw (c .no-figures .ensures))
 
 returns-2 : tie.Need-returns-2
+unfolding steppedYear give
 returns-2 c =
     let at-told = c .before .before in
     let at-read = at-told .before .before in
     let a = at-read .before .before .args in
     let (says, ((inside, _, _, _), _)) =
     told (yearSays (a .s .now)) (λ r. tablesInside (a .s .now) r × yearFits (a .state .left) r) (at-told .days .given .1) (at-read .read-year .ensures) in
-    (stepped-yes _ _ _ _ _ _ _ _ _ _ says (c .advance .ensures), inside)
+    (rw (c .advance .ensures) (bind-yes _ _ _ _ _ says), inside)
 
 pub step-spec : {M : Type 1} → statement M
 step-spec =

@@ -7,10 +7,12 @@ use lib.Signed.{mag}
 use lib.ListN.{length, drop}
 use borrow.Author.Needs.{needs}
 use Rattle.classes.specs.Ranges.{greatestActivity}
-use Rattle.dossier.specs.Reader.{accepted}
+use Rattle.dossier.specs.Reader.{accepted, give}
+use Rattle.dossier.proofs.ReaderLaws.{bind-no, bind-yes}
 use Rattle.activities.specs.Answers.{summedActivities, runSays, runInside}
 use Rattle.cursor.proofs.AtLaws.{told}
-use Rattle.years.proofs.YearLaws.{rest-is, run-no, run-yes, run-was-read}
+use Rattle.years.specs.Answers.{summarizedRecords}
+use Rattle.years.proofs.YearLaws.{rest-is, run-was-read}
 use Rattle.years.proofs.read_records.Statement.{statement}
 use Rattle.years.proofs.read_records.Tie as tie
 
@@ -61,13 +63,15 @@ add-t15 : tie.Need-add-t15
 add-t15 c = omega (arith, read (c .before) .1)
 
 returns : tie.Need-returns
+unfolding summarizedRecords
 returns c =
     let at-answer = c .before in
     let ran = at-answer .before .before in
-    (run-no _ _ _ _ _ (told (runSays _) (runInside _) (at-answer .n .given .1) (run ran) .0), tt)
+    (bind-no summedActivities _ _ _ (told (runSays _) (runInside _) (at-answer .n .given .1) (run ran) .0), tt)
 
 returns-2 : tie.Need-returns-2
-returns-2 c = let (says, within, small) = read (c .before) in (run-yes _ _ _ _ _ _ says, (within, small))
+unfolding summarizedRecords give
+returns-2 c = let (says, within, small) = read (c .before) in (bind-yes summedActivities _ _ _ _ says, (within, small))
 
 pub read-records-spec : {M : Type 1} → statement M
 read-records-spec =

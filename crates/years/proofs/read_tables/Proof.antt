@@ -4,9 +4,10 @@ use mathlib.Core.Path.{_∙_}
 use lib.ListN.{drop}
 use borrow.Author.Needs.{needs}
 use Rattle.classes.specs.Matrix.{entry}
+use Rattle.dossier.proofs.ReaderLaws.{bind-no}
 use Rattle.cursor.proofs.AtLaws.{told}
-use Rattle.years.specs.Answers.{tableSays, tableInside}
-use Rattle.years.proofs.YearLaws.{project-no, belt-no, belt-yes, records-keep}
+use Rattle.years.specs.Answers.{tableSays, tableInside, summarizedTables}
+use Rattle.years.proofs.YearLaws.{belt-no, belt-yes, records-keep}
 use Rattle.years.proofs.read_tables.Statement.{statement}
 use Rattle.years.proofs.read_tables.Tie as tie
 
@@ -43,11 +44,8 @@ read-records-requires : tie.Need-read-records-requires
 read-records-requires c κs = told (tableSays _) (tableInside _) (c .before .belt-carbon .given .1) (at-belt c .read-table2 .ensures) .1 .0
 
 returns : tie.Need-returns
-returns c =
-    let at-table = c .before .before .before in
-    let a = at-table .before .before .args in
-    let no = project-no (entry (a .factors .now)) (a .days) (a .project .0) (a .belt .0) (drop (a .at) (a .s .now)) in
-    (no _ (rw (c .before .n .given .1) at (at-table .read-table .ensures .0)), tt)
+unfolding summarizedTables
+returns c = (bind-no _ _ _ _ (rw (c .before .n .given .1) at (c .before .before .before .read-table .ensures .0)), tt)
 
 returns-2 : tie.Need-returns-2
 returns-2 c =
