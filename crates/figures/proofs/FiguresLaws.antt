@@ -25,7 +25,7 @@ use Rattle.projection.specs.Ranges.{SmallRegion, RowsWithin}
 use Rattle.projection.proofs.ProjectionLaws.{projected-carbon-le}
 use Rattle.figures.specs.declared.Figures.{Figures}
 use Rattle.figures.specs.declared.YearCarbon.{YearCarbon}
-use Rattle.figures.specs.Figures.{referenceLevel, monitoredCarbon, stockChangeEmissions, displacedEmissions, reductionOf, creditedOf, figuresOf}
+use Rattle.figures.specs.Figures.{referenceLevel, monitoredCarbon, stockChangeEmissions, displacedEmissions, reductionOf, creditedOf, tonnesOf, figuresOf}
 use Rattle.figures.specs.Carbon.{carbonFigures}
 use Rattle.figures.specs.Ranges.{SmallCarbon, SmallYear, SmallTable, DaysOf}
 
@@ -83,6 +83,11 @@ credited-negative n = let e : suc n * 4 ≡ suc (4 * n + 3) = omega arith in rw 
 credited-le : (reduction : ℤ) → mag (creditedOf reduction) ≤ mag reduction
 credited-le (pos n) = rw (credited-positive n) (omega arith)
 credited-le (negsuc n) = rw (credited-negative n) (omega arith)
+
+pub tonnes-le : (total : ℤ) → tonnesOf total ≤ mag total
+unfolding tonnesOf
+tonnes-le (pos n) = omega arith
+tonnes-le (negsuc n) = omega arith
 
 -- the differences that make up the reduction
 pub reduction-steps : (reference project activity displaced : ℤ) → mag reference ≤ greatestEmissions → mag project ≤ greatestEmissions

@@ -4,14 +4,14 @@ use Prim.Native.Nat.{ℕ, zero, suc, _+_, _*_, _^_, _≤_, _<_}
 use mathlib.Core.Path.{_≡_, refl, _∙_, ap, sym, subst}
 use mathlib.Core.List.{List, [], _∷_, _++_, append-assoc}
 use native.Mathlib.Omega.{arith}
-use lib.IntN.{ℤ, pos, negsuc}
+use lib.IntN.{ℤ, pos}
 use lib.Signed.{mag}
 use lib.ListN.{length, take, drop, getD, length-append, List·getD-append}
 use lib.Seq.{length-take-le, split-at, getD-take, getD-append-add}
 use borrow.Author.Tests.{le-ltb}
 use Rattle.figures.specs.declared.Figures.{Figures}
 use Rattle.figures.specs.Figures.{tonnesOf, noFigures}
-use Rattle.figures.proofs.FiguresLaws.{FiguresSmall}
+use Rattle.figures.proofs.FiguresLaws.{FiguresSmall, tonnes-le}
 use Rattle.wire.specs.Signed.{written, figureAt}
 use Rattle.wire.proofs.SignedLaws.{written-figure}
 use Rattle.report.specs.Report.{eight, eights, closing, reported}
@@ -50,11 +50,6 @@ fit-eights : (fs : List Figures) → ((k : ℕ) → k < length fs → FiguresSma
 unfolding eights
 fit-eights [] h = tt
 fit-eights (f ∷ fs) h = fit-append (eight f) (eights fs) (fit-eight f (h 0 (omega arith))) (fit-eights fs (λ k l. h (suc k) (omega arith)))
-
-tonnes-le : (z : ℤ) → tonnesOf z ≤ mag z
-unfolding tonnesOf
-tonnes-le (pos n) = omega arith
-tonnes-le (negsuc n) = omega arith
 
 written-at : (zs : List ℤ) → Fit zs → (buffer : List ℕ) (i : ℕ) → i < length zs → figureAt (written zs buffer) (8 * i) ≡ getD zs i (pos 0)
 written-at zs f buffer i h =

@@ -6,7 +6,7 @@ use mathlib.Core.List.{List}
 use native.Mathlib.Nat.{zero-add}
 use native.Mathlib.Omega.{arith}
 use lib.IntN.{pos}
-use lib.ListN.{length, getD, take, replicate, length-replicate}
+use lib.ListN.{length, getD, take, replicate}
 use lib.Seq.{take-all}
 use Rattle.arithmetic.specs.Sum.{sum}
 use Rattle.arithmetic.proofs.TableLaws.{atMost, entry-le}
@@ -14,8 +14,7 @@ use Rattle.classes.specs.Ranges.{greatestStock}
 use Rattle.classes.specs.Classes.{emissionFactor}
 use Rattle.classes.specs.Matrix.{RowsSum}
 use Rattle.classes.proofs.FactorLaws.{factor-le, built-in-le}
-use Rattle.projection.specs.Projection.{areaTotal, openedRegion}
-use Rattle.figures.specs.declared.State.{State}
+use Rattle.projection.specs.Projection.{openedRegion}
 use Rattle.figures.specs.declared.Figures.{Figures}
 use Rattle.figures.specs.Figures.{noFigures}
 use Rattle.figures.specs.Year.{Year}
@@ -26,15 +25,14 @@ use Rattle.assurance.proofs.YearLaws.{Reckoned, opened-reckoned}
 use Rattle.wire.specs.Bytes.{Bytes}
 use Rattle.wire.specs.Signed.{figureAt}
 use Rattle.report.specs.Report.{eight, closing}
-use Rattle.dossier.specs.Records.{Opening, OpeningInRange, units, termsOf, stateOf, emptyTerms, emptyState, Due, settled, YearsInRange}
+use Rattle.dossier.specs.Records.{Opening, OpeningInRange, termsOf, stateOf, emptyTerms, emptyState, settled, YearsInRange}
 use Rattle.dossier.specs.Reader.{Judged, refused, accepted}
 use Rattle.dossier.specs.Judging.{openingPiece}
-use Rattle.dossier.proofs.WellFormed.{opening-accepted}
 use Rattle.reckoner.specs.declared.Ledger.{Ledger}
 use Rattle.reckoner.specs.Ledger.{newLedger, emptyLedger, openedLedger, dueOf, givenYears}
 use Rattle.reckoner.specs.Calls.{openJudged, openCall, closedBuffer, opened}
 use Rattle.reckoner.proofs.RegionKept.{units-total}
-use Rattle.reckoner.proofs.Invariant.{LedgerKept, open-kept, in-use-rows, years-kept}
+use Rattle.reckoner.proofs.Invariant.{LedgerKept, open-either, open-kept, in-use-rows, years-kept}
 use Rattle.reckoner.proofs.Numbers.{given-count}
 use Rattle.promises.specs.CallList.{Call, afterCalls, ledgerAfter, LentBytes, acceptedYears, yearsAfter, standingCalls, standing}
 use Rattle.promises.specs.Reported.{yearsFigures, RegionReported, Reported}
@@ -46,23 +44,17 @@ use Rattle.promises.proofs.CallsLaws.{calls-handed, brought-when, gives
 -- ---- a ledger as an opening hands it back
 record Opened (l : Ledger) : Type 0 where
   none : l .given ≡ 0
-  room : length (l .figures) ≡ 20
   nothing : l .state .total .0 ≡ pos 0
   factors : (i j : ℕ) → emissionFactor (l .terms .stocks) i j ≤ greatestStock
   rows : 1 ≤ l .state .left → RowsSum (l .terms .matrix)
   reckoned : Reckoned greatestStock 0 0 (l .terms .start .0) (l .terms .beltstart .0) (l .state) (openedᶠ (l .state))
 
-zero-stocks : (i : ℕ) → getD (replicate 12 0) i 0 ≤ greatestStock
-unfolding atMost
-zero-stocks = entry-le greatestStock (replicate 12 0) tt
-
 opened-empty : Opened emptyLedger
-unfolding emptyLedger newLedger emptyTerms
+unfolding emptyLedger newLedger emptyTerms atMost
 opened-empty = record {
   none = refl;
-  room = length-replicate 20 noFigures;
   nothing = unfold emptyState in refl;
-  factors = factor-le (replicate 12 0) greatestStock zero-stocks;
+  factors = factor-le (replicate 12 0) greatestStock (entry-le greatestStock (replicate 12 0) tt);
   rows = λ h. unfold emptyState in absurd (omega arith);
   reckoned = unfold emptyState openedRegion sum in opened-reckoned greatestStock emptyState refl refl refl;
 }
@@ -71,7 +63,6 @@ opened-opening : (o : Opening) → OpeningInRange o → Opened (openedLedger o)
 unfolding openedLedger newLedger termsOf
 opened-opening o h = record {
   none = refl;
-  room = length-replicate 20 noFigures;
   nothing = unfold stateOf in refl;
   factors = factor-le _ greatestStock built-in-le;
   rows = λ k. in-use-rows (o .head .option) (o .matrix) (h .matrix);
@@ -80,12 +71,7 @@ opened-opening o h = record {
 }
 
 opening-opened : (piece : List ℕ) → Bytes piece → Opened (openCall piece .ledger)
-unfolding openCall
-opening-opened piece b = go (openingPiece piece) refl
-  where
-    go : (j : Judged Opening) → openingPiece piece ≡ j → Opened (openJudged j .ledger)
-    go (refused n) e = opened-empty
-    go (accepted o rest) e = opened-opening o (opening-accepted .sound piece b o rest e .0)
+opening-opened = open-either Opened opened-empty opened-opening
 
 -- what it settled
 pub opening-due : (piece : List ℕ) → dueOf (openCall piece .ledger) ≡ openedDue (openingPiece piece)
@@ -136,7 +122,7 @@ module _ (l : Ledger) (o : Opened l) (k : LedgerKept l) (ys : List Year) (inRang
         → figureAt closed (64 * i + 8 * j) ≡ getD (eight (getD (yearsFigures (l .terms) (l .state .project) (l .state .belt) ys) i noFigures)) j (pos 0)
     year-is i j hi hj =
         let e : l .given + i ≡ i = omega (arith, o .none) in
-        let own = ap (λ (m : ℕ). getD (after .figures) m noFigures) (sym e) ∙ own-figures ys l (omega (arith, o .none, o .room, kept-is .count, count-is)) i hi in
+        let own = ap (λ (m : ℕ). getD (after .figures) m noFigures) (sym e) ∙ own-figures ys l (omega (arith, o .none, k .twenty, kept-is .count, count-is)) i hi in
         year-figure after kept-is buffer (omega (arith, count-is)) i j (omega (arith, count-is)) hj
         ∙ ap (λ (f : Figures). getD (eight f) j (pos 0)) own
 

@@ -69,12 +69,8 @@ closable l k = record { years = omega (arith, k .count); balance = omega (arith,
 zero-row : (i : ℕ) → i < classes → sum classes (entry (replicate 144 0) i) ≡ 0
 zero-row i h = sum-cong classes (entry (replicate 144 0) i) (λ j. 0) (λ j k. getD-replicate 144 (12 * i + j) 0 0 (omega arith)) ∙ sum-const classes 0
 
-zero-stocks : (i : ℕ) → getD (replicate 12 0) i 0 ≤ 65535
-unfolding atMost
-zero-stocks = entry-le 65535 (replicate 12 0) tt
-
 pub empty-kept : LedgerKept emptyLedger
-unfolding emptyLedger newLedger emptyTerms emptyState
+unfolding emptyLedger newLedger emptyTerms emptyState atMost
 empty-kept = record {
   count = omega arith;
   years = omega arith;
@@ -82,7 +78,7 @@ empty-kept = record {
   project = zero-region;
   belt = zero-region;
   total = omega arith;
-  stocks = zero-stocks;
+  stocks = entry-le 65535 (replicate 12 0) tt;
   rows = λ i h. omega (arith, zero-row i h);
   places = length-replicate {A = ℕ} 144 0;
   twenty = length-replicate 20 noFigures;
@@ -150,13 +146,17 @@ years-kept l k [] h = k
 years-kept l k (y ∷ ys) h = years-kept (givenYear y l) (given-kept l k y (h .0)) ys (unfold givenYear dueOf next in h .1)
 
 -- ---- the calls
-pub open-kept : (piece : List ℕ) → Bytes piece → LedgerKept (openCall piece .ledger)
+-- an opening hands back the empty ledger, or that of an opening in range
+pub open-either : (P : Ledger → Type 0) → P emptyLedger → ((o : Opening) → OpeningInRange o → P (openedLedger o)) → (piece : List ℕ) → Bytes piece → P (openCall piece .ledger)
 unfolding openCall
-open-kept piece b = go (openingPiece piece) refl
+open-either P empty of piece b = go (openingPiece piece) refl
   where
-    go : (j : Judged Opening) → openingPiece piece ≡ j → LedgerKept (openJudged j .ledger)
-    go (refused n) e = empty-kept
-    go (accepted o rest) e = opened-kept o (opening-accepted .sound piece b o rest e .0)
+    go : (j : Judged Opening) → openingPiece piece ≡ j → P (openJudged j .ledger)
+    go (refused n) e = empty
+    go (accepted o rest) e = of o (opening-accepted .sound piece b o rest e .0)
+
+pub open-kept : (piece : List ℕ) → Bytes piece → LedgerKept (openCall piece .ledger)
+open-kept = open-either LedgerKept empty-kept opened-kept
 
 pub year-kept : (l : Ledger) → LedgerKept l → (piece : List ℕ) → Bytes piece → LedgerKept (yearCall l piece .ledger)
 unfolding yearCall

@@ -2,18 +2,16 @@
 -- Assumes nothing.
 use mathlib.Core.Path.{_≡_, refl, _∙_, ap, sym}
 use mathlib.Core.List.{List, [], _∷_, _++_, append-assoc, append-nil}
-use Prim.Native.Nat.{ℕ, suc, _+_, _*_, _^_, _≤_, _<_}
+use Prim.Native.Nat.{ℕ, suc, _+_, _*_, _≤_, _<_}
 use native.Mathlib.Numerals.{add-one}
 use native.Mathlib.Omega.{arith}
-use lib.IntN.{ℤ, pos, negsuc}
-use lib.Signed.{mag}
+use lib.IntN.{ℤ}
 use lib.ListN.{length, take, getD, length-append}
 use lib.Seq.{sets, take-suc, length-take-le}
 use Rattle.arithmetic.proofs.StoreLaws.{sets-append}
 use Rattle.wire.specs.Signed.{figureBytes, figuresBytes, written}
 use Rattle.wire.proofs.SignedLaws.{length-figure, written-next}
 use Rattle.figures.specs.declared.Figures.{Figures}
-use Rattle.figures.specs.Figures.{tonnesOf}
 use Rattle.report.specs.Report.{eight, eights, closing, reported}
 
 -- a list of figures is stored figure after figure
@@ -86,9 +84,3 @@ pub written-closing : (k : ℕ) (figures : List Figures) (total : ℤ) (project 
 unfolding reported
 written-closing k figures total project belt buffer h g =
     written-more (eights (take k figures)) (closing total project belt) buffer (64 * k) (omega (arith, length-years k figures h)) (omega arith)
-
--- the tonnes of a total of 64 bits
-pub tonnes-fit : (total : ℤ) → mag total < 2 ^ 63 → tonnesOf total < 2 ^ 63
-unfolding tonnesOf
-tonnes-fit (pos n) h = omega arith
-tonnes-fit (negsuc n) h = omega arith

@@ -3,17 +3,19 @@
 use mathlib.Core.Path.{_≡_, _∙_, sym}
 use mathlib.Core.List.{List}
 use Prim.Native.Nat.{ℕ, _+_, _*_, _-_, _≤_, _<_, _^_}
+use native.Mathlib.Nat.{lt-of-le-of-lt}
 use native.Mathlib.Omega.{arith}
 use lib.ListN.{length, take}
 use lib.Signed.{mag}
 use mir.Syntax.{w64}
 use mir.Facts.{toZ-ofZ, toZ-pos}
 use borrow.Author.Needs.{needs, sfits-of}
+use Rattle.figures.proofs.FiguresLaws.{tonnes-le}
 use Rattle.wire.specs.Signed.{written}
 use Rattle.wire.proofs.SignedLaws.{written-none}
 use Rattle.figures.specs.declared.Figures.{Figures}
 use Rattle.report.specs.Report.{eights}
-use Rattle.report.proofs.ReportLaws.{written-year, written-closing, tonnes-fit}
+use Rattle.report.proofs.ReportLaws.{written-year, written-closing}
 use Rattle.report.proofs.write_report.Statement.{statement}
 use Rattle.report.proofs.write_report.Tie as tie
 
@@ -87,7 +89,8 @@ tonnes-requires c κs = search needs
 cast-tonnes : tie.Need-cast-tonnes Inv-loop μ-loop
 cast-tonnes c =
     let at-start = c .before .before .before .before in
-    rw (c .tonnes .ensures) (sfits-of (tonnes-fit (at-start .args .total .0) (total-fits at-start)))
+    let total = at-start .args .total .0 in
+    rw (c .tonnes .ensures) (sfits-of (lt-of-le-of-lt (tonnes-le total) (total-fits at-start)))
 
 cast-put-four : tie.Need-cast-put-four Inv-loop μ-loop
 cast-put-four c = search needs
@@ -121,7 +124,7 @@ returns c =
       done,
       toZ-ofZ (sfits-of (total-fits at-start)),
       at-tonnes .tonnes .ensures,
-      toZ-pos w64 (tonnes-fit total (total-fits at-start)),
+      toZ-pos w64 (lt-of-le-of-lt (tonnes-le total) (total-fits at-start)),
       toZ-pos w64 (asked at-start .project),
       toZ-pos w64 (asked at-start .belt),
       ← written-closing (given .k) (given .t1) total project belt (given .buffer .now) (omega arith) (asked at-start .room),
