@@ -2,13 +2,10 @@
 -- Assumes nothing.
 use Prim.Native.Nat.{ℕ, _+_, _*_, _≤_}
 use mathlib.Core.Path.{_≡_, refl}
-use mathlib.Core.Bool.{Bool, true, false, cond}
 use mathlib.Core.Logic.{_↔_, Iff·symm}
 use mathlib.Core.List.{List}
 use native.Mathlib.Omega.{arith}
-use lib.Dec.{ltb}
 use lib.ListN.{length}
-use borrow.Author.Tests.{ltb-false, le-ltb}
 use Rattle.wire.specs.Bytes.{Bytes}
 use Rattle.figures.specs.Year.{Year}
 use Rattle.dossier.specs.Records.{Opening, WellFormedYears, WellFormedOpening, WellFormedYear}
@@ -17,11 +14,11 @@ use Rattle.dossier.specs.Claims.{numberOf}
 use Rattle.dossier.specs.Judging.{openingPiece, yearPiece}
 use Rattle.dossier.proofs.Numbers.{opening-zero, year-zero}
 use Rattle.reckoner.specs.declared.Ledger.{Ledger}
-use Rattle.reckoner.specs.declared.Answer.{Answer}
-use Rattle.reckoner.specs.Ledger.{dueOf, report}
-use Rattle.reckoner.specs.Calls.{said, answerNumber, openJudged, openCall, yearJudged, yearCall, closeCall, closeSays, HandedBack, reckonNumber}
+use Rattle.reckoner.specs.Ledger.{dueOf}
+use Rattle.reckoner.specs.Calls.{answerNumber, openJudged, openCall, yearJudged, yearCall, HandedBack, reckonNumber}
 use Rattle.promises.specs.Accepted.{AcceptedWhen}
 use Rattle.reckoner.proofs.Invariant.{handed-kept, due-kept}
+use Rattle.reckoner.proofs.CloseLaws.{close-zero}
 use Rattle.reckoner.proofs.Numbers.{number-zero}
 
 -- the number answered is that of the judgement
@@ -41,14 +38,6 @@ year-when : {l : Ledger} → HandedBack l → (piece : List ℕ) → Bytes piece
 unfolding yearCall
 year-when {l} k piece b = rw (year-number l (yearPiece (dueOf l) piece)) (Iff·symm (year-zero (dueOf l) (due-kept l (handed-kept k)) piece b))
 
-close-when : (l : Ledger) (size : ℕ) → (closeSays l size .number ≡ 0) ↔ (64 * l .given + 32 ≤ size)
-unfolding closeCall
-close-when l size = (go (ltb size (64 * l .given + 32)) refl, λ h. rw (le-ltb size (64 * l .given + 32) h))
-  where
-    go : (b : Bool) → ltb size (64 * l .given + 32) ≡ b → said (cond b (Answer.Refused 10) Answer.Accepted) (report l) .number ≡ 0 → 64 * l .given + 32 ≤ size
-    go true e h = absurd (omega arith)
-    go false e h = ltb-false size (64 * l .given + 32) e
-
 reckoning-when : (s : List ℕ) → Bytes s → (size : ℕ) → (reckonNumber s size ≡ 0) ↔ ((n : ℕ) × WellFormedYears n s × (64 * n + 32 ≤ size))
 reckoning-when s b size =
     let x = number-zero s b size in (
@@ -57,4 +46,4 @@ reckoning-when s b size =
     )
 
 pub accepted-when : AcceptedWhen
-accepted-when = record { opening = open-when; year = year-when; close = close-when; reckoning = reckoning-when }
+accepted-when = record { opening = open-when; year = year-when; close = close-zero; reckoning = reckoning-when }

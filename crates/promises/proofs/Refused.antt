@@ -1,24 +1,22 @@
 -- Demand 1: a refused call leaves ledger and buffer as they were, and gives the number of one of its causes.
 -- Assumes nothing.
-use Prim.Native.Nat.{ℕ, _+_, _*_}
+use Prim.Native.Nat.{ℕ, _+_, _*_, _≤_}
 use mathlib.Core.Path.{_≡_, refl, ap, sym}
-use mathlib.Core.Bool.{Bool, true, false, cond}
 use mathlib.Core.List.{List, []}
 use native.Mathlib.Omega.{arith}
-use lib.Dec.{ltb}
+use borrow.Author.Tests.{lt-ltb}
 use lib.ListN.{length, replicate}
 use Rattle.wire.specs.Bytes.{Bytes}
-use Rattle.wire.specs.Signed.{written}
 use Rattle.figures.specs.Year.{Year}
-use Rattle.dossier.specs.Causes.{bufferTooShort}
 use Rattle.dossier.specs.Records.{Opening, Dossier}
 use Rattle.dossier.specs.Reader.{Judged, refused, accepted}
 use Rattle.dossier.specs.Judging.{dossier, openingPiece, yearPiece}
 use Rattle.dossier.proofs.WellFormed.{dossier-accepted}
 use Rattle.reckoner.specs.declared.Ledger.{Ledger}
 use Rattle.reckoner.specs.declared.Answer.{Answer}
-use Rattle.reckoner.specs.Ledger.{emptyLedger, dueOf, report}
+use Rattle.reckoner.specs.Ledger.{emptyLedger, dueOf}
 use Rattle.reckoner.specs.Calls.{answered, said, answerNumber, openJudged, openCall, yearJudged, yearCall, closeCall, closeSays, closedBuffer, dossierCall, reckonSays, reckonNumber, reckonBuffer}
+use Rattle.reckoner.proofs.CloseLaws.{close-zero}
 use Rattle.reckoner.proofs.Numbers.{number-refused, number-zero, open-numbers, year-numbers, close-numbers, reckon-numbers}
 use Rattle.sheet.specs.Sheet.{refusalOf}
 use Rattle.printout.specs.Printout.{printed, printout}
@@ -41,12 +39,10 @@ year-refused l piece = go (yearPiece (dueOf l) piece)
     go (accepted y rest) h = absurd (h refl)
 
 close-refused : (l : Ledger) (buffer : List ℕ) → (closeSays l (length buffer) .number ≡ 0 → ⊥) → closedBuffer l buffer ≡ buffer
-unfolding closeCall closedBuffer
-close-refused l buffer = go (ltb (length buffer) (64 * l .given + 32))
-  where
-    go : (b : Bool) → (said (cond b (Answer.Refused bufferTooShort) Answer.Accepted) (report l) .number ≡ 0 → ⊥) → cond b buffer (written (report l) buffer) ≡ buffer
-    go true h = refl
-    go false h = absurd (h refl)
+unfolding closedBuffer
+close-refused l buffer f =
+    let short : 64 * l .given + 32 ≤ length buffer → ⊥ = λ h. f (close-zero l (length buffer) .1 h) in
+    rw (lt-ltb (length buffer) (64 * l .given + 32) (omega arith))
 
 reckon-refused : (s buffer : List ℕ) → (reckonNumber s (length buffer) ≡ 0 → ⊥) → reckonBuffer s buffer ≡ buffer
 unfolding reckonSays reckonBuffer

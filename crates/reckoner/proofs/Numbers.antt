@@ -1,14 +1,12 @@
 -- The number of the whole reckoning: when it is 0, and which bytes settle it; and which numbers each call can give.
 -- Assumes nothing.
 use Prim.Native.Nat.{ℕ, _+_, _*_, _≤_, _<_}
-use mathlib.Core.Path.{_≡_, refl, _∙_, ap}
+use mathlib.Core.Path.{_≡_, refl, _∙_, ap, sym}
 use mathlib.Core.Bool.{Bool, true, false, cond}
 use mathlib.Core.Logic.{_↔_, inl, inr}
 use mathlib.Core.List.{List, [], _∷_}
-use native.Mathlib.Numerals.{add-one}
 use native.Mathlib.Omega.{arith}
-use borrow.Author.Tests.{lt-ltb, le-ltb, ltb-true, ltb-false}
-use lib.Dec.{ltb}
+use borrow.Author.Tests.{lt-ltb}
 use lib.ListN.{length, take}
 use Rattle.wire.specs.Bytes.{Bytes}
 use Rattle.figures.specs.Year.{Year}
@@ -25,6 +23,7 @@ use Rattle.reckoner.specs.declared.Ledger.{Ledger}
 use Rattle.reckoner.specs.declared.Answer.{Answer}
 use Rattle.reckoner.specs.Ledger.{newLedger, openedLedger, givenYear, givenYears, ledgerOf, firstYear, dueOf, report}
 use Rattle.reckoner.specs.Calls.{answerNumber, closeCall, dossierCall, reckonNumber, openJudged, openCall, yearJudged, yearCall, tooShort, said, closeSays, reckonSays}
+use Rattle.reckoner.proofs.CloseLaws.{close-zero}
 
 -- every year given is counted
 pub given-count : (ys : List Year) (l : Ledger) → givenYears ys l .given ≡ l .given + length ys
@@ -61,7 +60,7 @@ module _ (s : List ℕ) (size : ℕ) (d : Dossier) (rest : List ℕ) (e : dossie
   number-short h = number-accepted ∙ unfold closeCall in simp (lt-ltb _ _ h)
 
   pub number-enough : 64 * ledgerOf d .given + 32 ≤ size → reckonNumber s size ≡ 0
-  number-enough h = number-accepted ∙ unfold closeCall in simp (le-ltb _ _ h)
+  number-enough h = number-accepted ∙ close-zero (ledgerOf d) size .1 h
 
 -- 0 just where the dossier is well formed and the buffer holds 64 × n + 32 bytes
 pub number-zero : (s : List ℕ) → Bytes s → (size : ℕ)
@@ -73,15 +72,11 @@ number-zero s b size = (there, back (dossier s) refl)
         let e : dossier s ≡ accepted (w .0) [] = ap dossier (w .2) ∙ dossier-accepted .complete (w .0) (w .1) in
         number-enough s size (w .0) [] e (omega (arith, given-all (w .0) (w .1), w .3))
 
-    fits : (d : Dossier) (t : List ℕ) → dossier s ≡ accepted d t → (x : Bool) → ltb size (64 * ledgerOf d .given + 32) ≡ x → reckonNumber s size ≡ 0 → 64 * ledgerOf d .given + 32 ≤ size
-    fits d t e true f z = let y = number-short s size d t e (ltb-true _ _ f) in absurd (omega arith)
-    fits d t e false f z = ltb-false _ _ f
-
     back : (j : Judged Dossier) → dossier s ≡ j → reckonNumber s size ≡ 0 → (d : Dossier) × DossierInRange d × (s ≡ dossierBytes d) × (64 * d .opening .head .years + 32 ≤ size)
     back (refused n) e z = let c = positive dossierCauses tt n (dossier-causes s n e) in let y = number-refused s size n e in absurd (omega arith)
     back (accepted d t) e z =
         let w = dossier-accepted .sound s b d t e in
-        (d, w .0, w .1, omega (arith, given-all d (w .0), fits d t e (ltb size (64 * ledgerOf d .given + 32)) refl z))
+        (d, w .0, w .1, omega (arith, given-all d (w .0), close-zero (ledgerOf d) size .0 (sym (number-accepted s size d t e) ∙ z)))
 
 -- ---- the numbers of each call: 0, or one of its own causes
 pub open-numbers : (piece : List ℕ) → ZeroOr openingCauses (answerNumber (openCall piece .answer))
