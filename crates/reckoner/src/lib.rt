@@ -91,7 +91,7 @@ fn give_years(s: &[u8], from: usize, mut ledger: Ledger, count: u64) -> Given
 {
     let terms = ledger.terms;
     let start = terms.start;
-    let beltstart = terms.beltstart;
+    let belt = terms.beltstart;
     let mut factors = [0u64; 144];
     let mut counted = [0u64; 144];
     figures::fill_factors(&mut factors, &mut counted, &terms.stocks, terms.option);
@@ -99,16 +99,7 @@ fn give_years(s: &[u8], from: usize, mut ledger: Ledger, count: u64) -> Given
     let mut k: u64 = 0;
     while k < count {
         let state = ledger.state;
-        let stepped = reckoning::step(
-            s,
-            at,
-            state,
-            start,
-            beltstart,
-            &terms.matrix,
-            &factors,
-            &counted,
-        );
+        let stepped = reckoning::step(s, at, state, start, belt, &terms.matrix, &factors, &counted);
         let answer = stepped.answer;
         let advanced = stepped.advanced;
         match answer {

@@ -11,10 +11,10 @@ use Rattle.reckoner.proofs.give_years.Statement.{statement}
 use Rattle.reckoner.proofs.give_years.Tie as tie
 
 abbrev Inv-loop : tie.InvT-loop
-Inv-loop s from count ledger₀ terms start beltstart factors counted at₀ k₀ ledger at k = SoFar s from ledger₀ count at ledger k
+Inv-loop s from count ledger₀ terms start belt factors counted at₀ k₀ ledger at k = SoFar s from ledger₀ count at ledger k
 
 abbrev μ-loop : tie.MeasureT-loop
-μ-loop s from count ledger₀ terms start beltstart factors counted at₀ k₀ ledger at k = count - k
+μ-loop s from count ledger₀ terms start belt factors counted at₀ k₀ ledger at k = count - k
 
 -- the places: a turn of the loop, the tables of factors before it, the lent bytes and the start
 abbrev in-loop : tie.After-step Inv-loop μ-loop → tie.In-loop Inv-loop μ-loop
@@ -23,11 +23,11 @@ in-loop c = c .before .before .before .before .before .before
 abbrev at-tables : tie.At-loop Inv-loop μ-loop → tie.After-fill-factors Inv-loop μ-loop
 at-tables c = c .before
 
-abbrev at-beltstart : tie.After-fill-factors Inv-loop μ-loop → tie.After-beltstart Inv-loop μ-loop
-at-beltstart c = c .before .before .before .before .before
+abbrev at-belt : tie.After-fill-factors Inv-loop μ-loop → tie.After-belt Inv-loop μ-loop
+at-belt c = c .before .before .before .before .before
 
 abbrev at-slice : tie.After-fill-factors Inv-loop μ-loop → tie.After-shared-slice-known Inv-loop μ-loop
-at-slice c = at-beltstart c .before .before .before
+at-slice c = at-belt c .before .before .before
 
 abbrev at-start : tie.After-fill-factors Inv-loop μ-loop → tie.Start Inv-loop μ-loop
 at-start c = at-slice c .before
