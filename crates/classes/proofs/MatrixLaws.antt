@@ -21,9 +21,9 @@ pub tableOf-cong : (f g : ℕ → ℕ → ℕ) → ((i j : ℕ) → i < classes 
 tableOf-cong f g e = listed-cong 144 (λ k. f (k / 12) (k % 12)) (λ k. g (k / 12) (k % 12)) (λ k h. e (k / 12) (k % 12) (omega arith) (omega arith))
 
 -- ---- by computed tests: no probability is above 1, and each row sums to 1
-pub probability-le : (i : ℕ) → getD deforestationProbabilities i 0 ≤ million
+pub deforestation-le : (i : ℕ) → getD deforestationProbabilities i 0 ≤ million
 unfolding deforestationProbabilities atMost
-probability-le = entry-le million deforestationProbabilities tt
+deforestation-le = entry-le million deforestationProbabilities tt
 
 pub option-one-rows : RowsSum optionOneMatrix
 unfolding all sum listed deforestationProbabilities optionOne optionOneMatrix

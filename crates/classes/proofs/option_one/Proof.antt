@@ -4,7 +4,7 @@ use borrow.Author.Needs.{needs}
 use Rattle.classes.specs.Classes.{deforestationProbabilities}
 use Rattle.classes.specs.Matrix.{optionOne}
 use Rattle.classes.proofs.Tests.{tests}
-use Rattle.classes.proofs.MatrixLaws.{probability-le}
+use Rattle.classes.proofs.MatrixLaws.{deforestation-le}
 use Rattle.classes.proofs.option_one.Statement.{statement}
 use Rattle.classes.proofs.option_one.Tie as tie
 
@@ -16,7 +16,7 @@ array-read-result c = search needs
 
 sub-result : tie.Need-sub-result
 unfolding deforestationProbabilities
-sub-result c = probability-le (c .before .args .i)
+sub-result c = deforestation-le (c .before .args .i)
 
 returns : tie.Need-returns
 unfolding optionOne deforestationProbabilities
