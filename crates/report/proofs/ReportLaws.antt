@@ -1,16 +1,16 @@
 -- The numbers of a report: how many, where each stands, and that figure after figure they make the written buffer.
 -- Assumes nothing.
-use mathlib.Core.Path.{_≡_, refl, _∙_, ap, sym}
-use mathlib.Core.List.{List, [], _∷_, _++_, append-assoc, append-nil}
+use mathlib.Core.Path.{_≡_, refl, _∙_, sym}
+use mathlib.Core.List.{List, [], _∷_, _++_}
 use Prim.Native.Nat.{ℕ, suc, _+_, _*_, _≤_, _<_}
 use native.Mathlib.Numerals.{add-one}
 use native.Mathlib.Omega.{arith}
 use lib.IntN.{ℤ}
-use lib.ListN.{length, take, getD, length-append}
+use lib.ListN.{length, take, getD}
 use lib.Seq.{sets, take-suc, length-take-le}
 use Rattle.arithmetic.proofs.StoreLaws.{sets-append}
 use Rattle.wire.specs.Signed.{figureBytes, figuresBytes, written}
-use Rattle.wire.proofs.SignedLaws.{length-figure, written-next}
+use Rattle.wire.proofs.SignedLaws.{length-figure, length-figures, figures-append, written-more}
 use Rattle.figures.specs.declared.Figures.{Figures}
 use Rattle.report.specs.Report.{eight, eights, closing, reported}
 
@@ -38,19 +38,7 @@ stored-four a b c d s at =
 -- figures stored right after stored ones
 pub stored-more : (xs ys : List ℤ) (s : List ℕ) (at next : ℕ) → at + 8 * length xs ≡ next
     → sets (sets s at (figuresBytes xs)) next (figuresBytes ys) ≡ sets s at (figuresBytes (xs ++ ys))
-stored-more [] ys s at next e = rw stored-none (ap (λ (n : ℕ). sets s n (figuresBytes ys)) (omega arith))
-stored-more (x ∷ xs) ys s at next e =
-    rw (stored-next x xs s at (at + 8) refl) (stored-more xs ys (sets s at (figureBytes x)) (at + 8) next (omega arith))
-    ∙ sym (stored-next x (xs ++ ys) s at (at + 8) refl)
-
--- more figures stored right after the written ones are written too
-written-more : (xs ys : List ℤ) (buffer : List ℕ) (at : ℕ) → 8 * length xs ≡ at → at + 8 * length ys ≤ length buffer
-    → sets (written xs buffer) at (figuresBytes ys) ≡ written (xs ++ ys) buffer
-unfolding figuresBytes
-written-more xs [] buffer at e h = rw append-nil
-written-more xs (z ∷ ys) buffer at e h =
-    stored-next z ys (written xs buffer) at (at + 8) refl
-    ∙ rw (written-next xs z buffer at e (omega arith)) (written-more (xs ++ (z ∷ [])) ys buffer (at + 8) (simp length-append (omega arith)) (omega arith) ∙ rw append-assoc)
+stored-more xs ys s at next e = rw (figures-append xs ys) (sym (sets-append s at (figuresBytes xs) (figuresBytes ys) ∙ rw (length-figures xs, e)))
 
 -- eight numbers a year
 length-eights : (figures : List Figures) → length (eights figures) ≡ 8 * length figures

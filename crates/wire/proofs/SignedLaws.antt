@@ -2,7 +2,7 @@
 -- Assumes nothing.
 use Prim.Native.Nat.{ℕ, _+_, _-_, _*_, _^_, _≤_, _<_}
 use mathlib.Core.Path.{_≡_, refl, _∙_, ap, sym}
-use mathlib.Core.List.{List, [], _∷_, _++_, append-assoc, append-nil}
+use mathlib.Core.List.{List, [], _∷_, _++_, append-assoc}
 use native.Mathlib.Omega.{arith}
 use lib.IntN.{ℤ, pos, negsuc}
 use lib.Signed.{mag}
@@ -45,7 +45,7 @@ pub figure-back : (s t : List ℕ) (z : ℤ) (at : ℕ) → length s ≡ at → 
 unfolding figureAt fieldAt figureBytes
 figure-back s t z at e h = rw (drop-at s (bytes 8 (twosComplement z) ++ t) at e, take-bytes 8 (twosComplement z) t (twos-lt z h)) (signed-twos z h)
 
-figures-append : (xs ys : List ℤ) → figuresBytes (xs ++ ys) ≡ figuresBytes xs ++ figuresBytes ys
+pub figures-append : (xs ys : List ℤ) → figuresBytes (xs ++ ys) ≡ figuresBytes xs ++ figuresBytes ys
 unfolding figuresBytes
 figures-append [] ys = refl
 figures-append (x ∷ xs) ys = rw (figures-append xs ys) (sym (append-assoc (figureBytes x) (figuresBytes xs) (figuresBytes ys)))
@@ -58,19 +58,18 @@ written-figure xs z ys buffer at e h =
     rw (figures-append xs (z ∷ ys), append-assoc (figuresBytes xs) (figureBytes z ++ figuresBytes ys) rest, append-assoc (figureBytes z) (figuresBytes ys) rest)
     (figure-back (figuresBytes xs) (figuresBytes ys ++ rest) z at (length-figures xs ∙ e) h)
 
--- one figure more is written right after the others
-pub written-next : (xs : List ℤ) (z : ℤ) (buffer : List ℕ) (at : ℕ) → 8 * length xs ≡ at → at + 8 ≤ length buffer
-    → sets (written xs buffer) at (figureBytes z) ≡ written (xs ++ (z ∷ [])) buffer
-unfolding written figuresBytes
-written-next xs z buffer at e h =
+-- more figures stored right after the written ones are written too
+pub written-more : (xs ys : List ℤ) (buffer : List ℕ) (at : ℕ) → 8 * length xs ≡ at → at + 8 * length ys ≤ length buffer
+    → sets (written xs buffer) at (figuresBytes ys) ≡ written (xs ++ ys) buffer
+unfolding written
+written-more xs ys buffer at e h =
     let s = figuresBytes xs in
     let t = drop (8 * length xs) buffer in
     let l : length s ≡ at = length-figures xs ∙ e in
-    let n : at + length (figureBytes z) ≤ length (s ++ t) = omega (arith, length-figure z, length-append s t, length-drop (8 * length xs) buffer) in
-    let k : 8 * length (xs ++ (z ∷ [])) ≡ 8 * length xs + 8 = ap (λ (n : ℕ). 8 * n) (length-append xs (z ∷ [])) ∙ omega arith in
-    let d : drop (at + length (figureBytes z)) (s ++ t) ≡ drop 8 t = rw (← l, length-figure z) (drop-append-add s t 8) in
-    sets-eq (figureBytes z) (s ++ t) at n
-    ∙ rw (take-at s t at l, d, drop-drop, figures-append xs (z ∷ []), append-nil (figureBytes z), k) (rw append-assoc)
+    let n : at + length (figuresBytes ys) ≤ length (s ++ t) = omega (arith, length-figures xs, length-figures ys, length-append s t, length-drop (8 * length xs) buffer) in
+    let k : 8 * length (xs ++ ys) ≡ 8 * length xs + 8 * length ys = ap (λ (n : ℕ). 8 * n) (length-append xs ys) ∙ omega arith in
+    let d : drop (at + length (figuresBytes ys)) (s ++ t) ≡ drop (8 * length ys) t = rw (← l, length-figures ys) (drop-append-add s t (8 * length ys)) in
+    sets-eq (figuresBytes ys) (s ++ t) at n ∙ rw (take-at s t at l, d, drop-drop, figures-append xs ys, k) (rw append-assoc)
 
 -- nothing is written yet
 pub written-none : (buffer : List ℕ) → written [] buffer ≡ buffer
