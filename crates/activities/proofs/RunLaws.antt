@@ -23,7 +23,7 @@ use Rattle.wire.specs.Bytes.{fieldAt}
 use Rattle.dossier.specs.Reader.{refused, accepted, _>>=_, give, stands, upon}
 use Rattle.dossier.specs.JudgingRecords.{activityMark, activityUnder, activity}
 use Rattle.dossier.specs.Judging.{activities}
-use Rattle.dossier.proofs.RunLaws.{activities-are, activities-step}
+use Rattle.dossier.proofs.RunLaws.{activities-are, activities-step, activities-over}
 use Rattle.dossier.proofs.Refusals.{sixty-first}
 use Rattle.dossier.proofs.ActivityLaws.{activity-is, under-range}
 use Rattle.dossier.proofs.ReaderLaws.{bind-no, bind-yes, stands-short, stands-here}
@@ -62,7 +62,7 @@ module _ {s : List ℕ} {at : ℕ} {grams : Grams} {count : ℕ} (l : SoFar s at
   unfolding summedActivities upon give
   over f =
       (λ i. accepted (record { 0 = l .summed i }) (drop at s))
-      ∙ bind-yes (activities []) _ s (l .records) (drop at s) (sym (l .goesOn ∙ activities-are (l .records) (drop at s) ∙ rw f))
+      ∙ bind-yes (activities []) _ s (l .records) (drop at s) (sym (l .goesOn ∙ activities-over (l .records) (drop at s) f))
 
   stopped : {n : ℕ} → activities (l .records) (drop at s) ≡ refused n → refused n ≡ summedActivities s
   unfolding summedActivities

@@ -49,11 +49,6 @@ years-cons : (y : Year) (l : List Year) (t : List ℕ) → yearsBytes (y ∷ l) 
 unfolding yearsBytes joined
 years-cons y l t = simp append-assoc
 
--- after a year stands YR or EN, no activity mark
-years-over : (l : List Year) (t : List ℕ) → Over (yearsBytes l ++ t)
-years-over [] t = unfold yearsBytes joined activityMark in stands-bytes activityMark EN t (lit< tt)
-years-over (y ∷ l) t = unfold activityMark in rw years-cons (year-begins activityMark y (yearsBytes l ++ t))
-
 -- the next k years can be said in YR's 16 bits
 pub record Room (k : ℕ) (due : Due) : Type 0 where
   pub years : due .state .year + k ≤ 65536
@@ -71,14 +66,39 @@ pub room-opening : (o : Opening) → OpeningInRange o → (k : ℕ) → k ≤ o 
 unfolding settled termsOf stateOf
 room-opening o p k h = record { years = omega (arith, p .head); start = omega (arith, p .projectAreas .totals); beltstart = omega (arith, p .beltAreas .totals) }
 
+-- what is settled after years
+pub dueAfter : List Year → Due → Due
+dueAfter [] due = due
+dueAfter (y ∷ l) due = dueAfter l (next y due)
+
+-- after a year stands another, or what follows them: no activity mark
+next-over : (l : List Year) (t : List ℕ) → Over t → Over (joined (map yearBytes l) ++ t)
+unfolding joined activityMark
+next-over [] t o = o
+next-over (y ∷ l) t o = rw append-assoc (year-begins activityMark y (joined (map yearBytes l) ++ t))
+
+pub years-step : (k : ℕ) (due : Due) (before : List Year) (s : List ℕ) {y : Year} {u : List ℕ} → year due s ≡ accepted y u → years (suc k) due before s ≡ years k (next y due) (before ++ (y ∷ [])) u
+unfolding years _>>=_
+years-step k due before s e = rw e
+
+-- years in range are read, and the judgement goes on at what follows them
+pub years-continue : (l : List Year) (k n : ℕ) → n ≡ length l + k → (due : Due) → Room n due → (before : List Year) (t : List ℕ) → YearsInRange due l → Over t
+    → years n due before (joined (map yearBytes l) ++ t) ≡ years k (dueAfter l due) (before ++ l) t
+unfolding joined dueAfter
+years-continue [] k n e due r before t p o = let z : n ≡ k = omega arith in rw (z, append-nil)
+years-continue (y ∷ l) k zero e due r before t p o = absurd (omega arith)
+years-continue (y ∷ l) k (suc n) e due r before t p o =
+    let u = joined (map yearBytes l) ++ t in
+    let x = year-exact due (room-due due r) .reads y u tt (p .0, next-over l t o) in
+    let i = years-continue l k n (omega arith) (next y due) (room-next y due r) (before ++ (y ∷ [])) t (p .1) o in
+    let a = append-assoc before (y ∷ []) l in
+    rw append-assoc (years-step n due before (yearBytes y ++ u) x ∙ i ∙ ap (λ (m : List Year). years k (dueAfter l (next y due)) m t) a)
+
 years-reads : (k : ℕ) (due : Due) → Room k due → (before l : List Year) → length l ≡ k → YearsInRange due l → years k due before (yearsBytes l ++ []) ≡ accepted (before ++ l) []
-unfolding years give _>>=_ _>>_
-years-reads zero due r before [] n p = unfold yearsBytes joined in rw (end-yes, append-nil)
-years-reads zero due r before (y ∷ l) n p = absurd (omega arith)
-years-reads (suc k) due r before [] n p = absurd (omega arith)
-years-reads (suc k) due r before (y ∷ l) n p =
-    rw (years-cons y l [], year-exact due (room-due due r) .reads y (yearsBytes l ++ []) tt (p .0, years-over l []))
-    (years-reads k (next y due) (room-next y due r) (before ++ (y ∷ [])) l (omega arith) (p .1) ∙ rw append-assoc)
+unfolding yearsBytes activityMark
+years-reads k due r before l n p =
+    rw append-assoc (years-continue l 0 k (omega arith) due r before (bytes 2 EN ++ []) p (stands-bytes activityMark EN [] (lit< tt))
+    ∙ unfold years give _>>_ in rw end-yes)
 
 -- more was read after before, then EN, and nothing follows
 record Given (k : ℕ) (due : Due) (before : List Year) (s : List ℕ) (all : List Year) (t : List ℕ) : Type 0 where

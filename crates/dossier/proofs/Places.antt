@@ -1,16 +1,16 @@
 -- The numbers at their place in a dossier: after an opening and k years in range, what follows decides.
 -- Assumes nothing.
 use Prim.Native.Nat.{ℕ, zero, suc, _+_, _-_, _<_}
-use mathlib.Core.Path.{_≡_, refl, _∙_, ap, sym}
+use mathlib.Core.Path.{_≡_, refl, _∙_, sym}
 use mathlib.Core.Bool.{cond}
-use mathlib.Core.List.{List, [], _∷_, _++_, map, append-assoc, append-nil}
+use mathlib.Core.List.{List, [], _∷_, _++_, map}
 use native.Mathlib.Omega.{arith}
 use lib.Dec.{ltb, lit<}
 use lib.ListN.{length, take, length-append}
 use Rattle.figures.specs.Year.{Year}
 use Rattle.wire.specs.Bytes.{number, bytes, joined}
 use Rattle.dossier.specs.Marks.{YR, EN}
-use Rattle.dossier.specs.Records.{Opening, OpeningInRange, openingBytes, Due, settled, next, YearInRange, yearBytes, YearsInRange}
+use Rattle.dossier.specs.Records.{Opening, OpeningInRange, openingBytes, Due, settled, YearInRange, yearBytes, YearsInRange}
 use Rattle.dossier.specs.Claims.{DueInRange}
 use Rattle.dossier.specs.Reader.{refused, accepted, Reader, _>>=_, _>>_, give, endOfPiece}
 use Rattle.dossier.specs.JudgingRecords.{activityMark}
@@ -20,35 +20,8 @@ use Rattle.dossier.proofs.ReaderLaws.{bind-no, stands-short, stands-byt
 use Rattle.dossier.proofs.Refusals.{year-short, year-other, end-none-left, end-followed, lone-byte, beyond-piece}
 use Rattle.dossier.proofs.OpeningLaws.{opening-exact}
 use Rattle.dossier.proofs.RunLaws.{Over}
-use Rattle.dossier.proofs.YearLaws.{year-exact, year-begins}
-use Rattle.dossier.proofs.DossierLaws.{Room, room-due, room-next, room-opening}
-
--- what is settled after years
-pub dueAfter : List Year → Due → Due
-dueAfter [] due = due
-dueAfter (y ∷ l) due = dueAfter l (next y due)
-
-next-over : (l : List Year) (t : List ℕ) → Over t → Over (joined (map yearBytes l) ++ t)
-unfolding joined activityMark
-next-over [] t o = o
-next-over (y ∷ l) t o = rw append-assoc (year-begins activityMark y (joined (map yearBytes l) ++ t))
-
-pub years-step : (k : ℕ) (due : Due) (before : List Year) (s : List ℕ) {y : Year} {u : List ℕ} → year due s ≡ accepted y u → years (suc k) due before s ≡ years k (next y due) (before ++ (y ∷ [])) u
-unfolding years _>>=_
-years-step k due before s e = rw e
-
--- years in range are read, and the judgement goes on at what follows them
-years-continue : (l : List Year) (k n : ℕ) → n ≡ length l + k → (due : Due) → Room n due → (before : List Year) (t : List ℕ) → YearsInRange due l → Over t
-    → years n due before (joined (map yearBytes l) ++ t) ≡ years k (dueAfter l due) (before ++ l) t
-unfolding joined dueAfter
-years-continue [] k n e due r before t p o = let z : n ≡ k = omega arith in rw (z, append-nil)
-years-continue (y ∷ l) k zero e due r before t p o = absurd (omega arith)
-years-continue (y ∷ l) k (suc n) e due r before t p o =
-    let u = joined (map yearBytes l) ++ t in
-    let x = year-exact due (room-due due r) .reads y u tt (p .0, next-over l t o) in
-    let i = years-continue l k n (omega arith) (next y due) (room-next y due r) (before ++ (y ∷ [])) t (p .1) o in
-    let a = append-assoc before (y ∷ []) l in
-    rw append-assoc (years-step n due before (yearBytes y ++ u) x ∙ i ∙ ap (λ (m : List Year). years k (dueAfter l (next y due)) m t) a)
+use Rattle.dossier.proofs.YearLaws.{year-exact}
+use Rattle.dossier.proofs.DossierLaws.{room-opening, dueAfter, years-continue}
 
 module _ (o : Opening) (p : OpeningInRange o) (l : List Year) (q : YearsInRange (settled o) l) where
   -- the bytes of the opening and of the years, and t after them
@@ -95,7 +68,8 @@ module _ (o : Opening) (p : OpeningInRange o) (l : List Year) (q : YearsInRange 
   unfolding activityMark
   beyond-end h b t =
       dossier-continues 0 (omega arith) _ (stands-bytes activityMark EN (b ∷ t) (lit< tt)) 2
-      (unfold years _>>_ in rw (end-followed (bytes 2 EN ++ (b ∷ t)) (simp (length-append, length-bytes) (omega arith)) (take-bytes 2 EN (b ∷ t) (lit< tt)) (simp (length-append, length-bytes) (omega arith))))
+      (unfold years _>>_ in
+      rw (end-followed (bytes 2 EN ++ (b ∷ t)) (simp (length-append, length-bytes) (omega arith)) (take-bytes 2 EN (b ∷ t) (lit< tt)) (simp (length-append, length-bytes) (omega arith))))
 
 -- ---- after a piece: "a lone byte left over there is 1, any mark beyond the piece 2"
 piece-fault : {A : Type 0} (r : Reader A) (s : List ℕ) {a : A} {t : List ℕ} (n : ℕ) → r s ≡ accepted a t → endOfPiece t ≡ refused n → (r >>= λ a. endOfPiece >> give a) s ≡ refused n

@@ -54,6 +54,10 @@ Over t = stands activityMark t ≡ false
 unfoldable pub runBytes : List Activity → List ℕ
 runBytes l = joined (map activityBytes l)
 
+pub activities-over : (before : List Activity) (t : List ℕ) → Over t → activities before t ≡ accepted before t
+unfolding upon give
+activities-over before t o = activities-are before t ∙ rw o
+
 -- records in range are read, and the run goes on at what follows them
 pub activities-continue : (before l : List Activity) (t : List ℕ) → length before + length l ≤ 60 → ActivitiesInRange l → activities before (runBytes l ++ t) ≡ activities (before ++ l) t
 unfolding runBytes joined
@@ -63,15 +67,6 @@ activities-continue before (a ∷ l) t n p =
     let m : length (before ++ (a ∷ [])) + length l ≤ 60 = simp length-append (omega arith) in
     let x = activities-step before (activityBytes a ++ u) (omega arith) (begins-activity a u) (activity-exact .reads a u tt (p .0)) in
     rw append-assoc (x ∙ activities-continue (before ++ (a ∷ [])) l t m (p .1) ∙ ap (λ (r : List Activity). activities r t) (append-assoc before (a ∷ []) l))
-
-run-reads : (k : ℕ) (before l : List Activity) (t : List ℕ) → length l ≤ k → ActivitiesInRange l → Over t → run k before (runBytes l ++ t) ≡ accepted (before ++ l) t
-unfolding run runBytes joined upon give _>>=_
-run-reads zero before [] t n p o = simp (o, append-nil)
-run-reads zero before (a ∷ l) t n p o = absurd (omega arith)
-run-reads (suc k) before [] t n p o = simp (o, append-nil)
-run-reads (suc k) before (a ∷ l) t n p o =
-    rw (append-assoc, begins-activity a (runBytes l ++ t), activity-exact .reads a (runBytes l ++ t) tt (p .0))
-    (run-reads k (before ++ (a ∷ [])) l t (omega arith) (p .1) o ∙ rw append-assoc)
 
 -- l was read after before, and t follows
 record Ran (k : ℕ) (before : List Activity) (s : List ℕ) (all : List Activity) (t : List ℕ) : Type 0 where
@@ -123,9 +118,12 @@ RunThen l t = (length l ≤ 60) × ActivitiesInRange l × Over t
 pub activities-exact : Exact 0 Any (activities []) (λ l. joined (map activityBytes l)) RunThen
 unfolding activities runBytes
 activities-exact = record {
-  reads = λ l t c p. run-reads _ [] l t (omega (arith, p .0)) (p .1) (p .2);
+  reads = λ l t c p. reads l t p;
   only = λ s bs h l t q. let r = run-only _ [] s bs l t q in (tt, first r, r .encoded ∙ ap (λ (x : List Activity). runBytes x ++ t) (sym (r .whole)));
 }
   where
+    reads : (l : List Activity) (t : List ℕ) → RunThen l t → activities [] (runBytes l ++ t) ≡ accepted l t
+    reads l t p = activities-continue [] l t (omega (arith, p .0)) (p .1) ∙ activities-over l t (p .2)
+
     first : {s : List ℕ} {l : List Activity} {t : List ℕ} → Ran (60 - 0) [] s l t → RunThen l t
     first r = rw (r .whole) (omega arith, r .each, r .over)
