@@ -15,11 +15,11 @@ use Rattle.wire.specs.Bytes.{Bytes, bytes, joined}
 use Rattle.dossier.specs.Marks.{YR, CP, CD}
 use Rattle.dossier.specs.Records.{Due, conversionsBytes, YearInRange, yearBytes}
 use Rattle.dossier.specs.Claims.{DueInRange}
-use Rattle.dossier.specs.Reader.{refused, accepted, _>>=_, _>>_, give, refuse, begin, stands}
+use Rattle.dossier.specs.Reader.{refused, accepted, _>>=_, _>>_, begin, stands}
 use Rattle.dossier.specs.JudgingRecords.{activityMark}
 use Rattle.dossier.specs.Judging.{activities, noneLeft, yearRecords, yearLeft, year}
 use Rattle.wire.proofs.BytesLaws.{length-bytes}
-use Rattle.dossier.proofs.ReaderLaws.{no, step, bind-only, then-only, was, begin-only, within-yes, equal-yes, equal-only, stands-bytes}
+use Rattle.dossier.proofs.ReaderLaws.{no, step, begin-only, within-yes, equal-yes, stands-bytes}
 use Rattle.dossier.proofs.Refusals.{sixty-first, none-left}
 use Rattle.dossier.proofs.YearRefusals.{yearRecord, year-fields}
 use Rattle.dossier.proofs.Exact.{Exact, begin-first, field-then, within-then, equal-then}

@@ -4,8 +4,6 @@ use Prim.Native.Nat.{ℕ, _≤_, _<_}
 use mathlib.Core.Path.{_≡_}
 use mathlib.Core.List.{List, []}
 use Rattle.wire.specs.Bytes.{Bytes}
-use Rattle.figures.specs.declared.Terms.{Terms}
-use Rattle.figures.specs.declared.State.{State}
 use Rattle.classes.specs.Classes.{greatestArea}
 use Rattle.dossier.specs.Records.{Due, Dossier, DossierInRange, dossierBytes}
 use Rattle.dossier.specs.Reader.{Reader, Judged, refused, accepted}

@@ -1,10 +1,10 @@
 -- Document 01, "Causes and numbers": one judgement of any bytes as a dossier, as an opening piece, as a year piece. "Records are judged in
 -- order; the first fault counts."
 -- To be believed. Assumes nothing.
-use Prim.Native.Nat.{ℕ, zero, suc, _+_, _-_, _*_}
-use mathlib.Core.Bool.{Bool, cond}
+use Prim.Native.Nat.{ℕ, zero, suc, _+_, _-_}
+use mathlib.Core.Bool.{cond}
 use mathlib.Core.List.{List, [], _∷_, _++_}
-use lib.Dec.{ltb, eqb}
+use lib.Dec.{eqb}
 use lib.ListN.{length}
 use Rattle.classes.specs.Calendar.{daysInYear}
 use Rattle.activity.specs.declared.Activity.{Activity}
@@ -12,7 +12,7 @@ use Rattle.figures.specs.Year.{Year}
 use Rattle.dossier.specs.Causes.{yearWrong, tooManyActivities}
 use Rattle.dossier.specs.Marks.{PA, DA, YR, CP, CD, EN}
 use Rattle.dossier.specs.Records.{Opening, Due, settled, next, Dossier}
-use Rattle.dossier.specs.Reader.{Judged, refused, accepted, Reader, _>>=_, _>>_, give, refuse, mark, is, upon, begin, field, within, equal, nothing, endOfPiece}
+use Rattle.dossier.specs.Reader.{Reader, _>>=_, _>>_, give, refuse, mark, is, upon, begin, field, within, equal, nothing, endOfPiece}
 use Rattle.dossier.specs.JudgingRecords.{head, areas, matrixUnder, conversions, activityMark, activity}
 
 -- HD, PA, DA, and MP under Option 2

@@ -1,7 +1,7 @@
 -- Document 01, "The dossier": each record's fields, their ranges, and its bytes. What YR, CP, CD and the activity records bring is a Year of the
 -- crate figures; an activity record is an Activity of the crate activity, which has its ranges; its bytes are in Layouts.
 -- To be believed. Assumes nothing.
-use Prim.Native.Nat.{ℕ, _≤_, _<_}
+use Prim.Native.Nat.{ℕ, _≤_}
 use mathlib.Core.Path.{_≡_}
 use mathlib.Core.Option.{Option, none, some}
 use mathlib.Core.List.{List, [], _∷_, map}

@@ -1,8 +1,6 @@
 // What `yearsheet` prints for the bytes it is handed.
 use reckoner::Answer;
 use reckoner::Ledger;
-ghost use mathlib.Core.Path.{_≡_};
-ghost use Prim.Native.Nat.{_≤_};
 ghost use Rattle.sheet.specs.Written.{Written};
 ghost use Rattle.reckoner.specs.Calls.{HandedBack};
 ghost use Rattle.printout.specs.Printout.{printout};

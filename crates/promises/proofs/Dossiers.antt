@@ -1,6 +1,6 @@
 -- A dossier is its opening and its years, opened, given and closed; demands 2 and 3 of it.
 -- Assumes nothing.
-use Prim.Native.Nat.{ℕ, _+_, _*_, _≤_}
+use Prim.Native.Nat.{ℕ, _+_}
 use mathlib.Core.Path.{_≡_, refl, _∙_, ap, sym}
 use mathlib.Core.List.{List, [], _∷_, _++_, map, append-assoc, append-nil}
 use native.Mathlib.Omega.{arith}
@@ -9,20 +9,20 @@ use Rattle.figures.specs.Year.{Year}
 use Rattle.wire.specs.Bytes.{Bytes, bytes, joined}
 use Rattle.wire.proofs.BytesLaws.{bytes-before, bytes-after}
 use Rattle.dossier.specs.Marks.{EN}
-use Rattle.dossier.specs.Records.{openingBytes, Due, settled, next, yearBytes, YearsInRange, Dossier, DossierInRange, dossierBytes}
+use Rattle.dossier.specs.Records.{openingBytes, Due, settled, next, yearBytes, Dossier, DossierInRange, dossierBytes}
 use Rattle.dossier.specs.Reader.{Judged, accepted}
-use Rattle.dossier.specs.Judging.{dossier, openingPiece, yearPiece}
+use Rattle.dossier.specs.Judging.{dossier, openingPiece}
 use Rattle.dossier.proofs.WellFormed.{dossier-accepted, opening-accepted}
 use Rattle.dossier.proofs.Pieces.{YearPieces, years-given}
 use Rattle.dossier.proofs.DossierLaws.{room-opening}
 use Rattle.reckoner.specs.declared.Ledger.{Ledger}
 use Rattle.reckoner.specs.declared.Answer.{Answer}
 use Rattle.reckoner.specs.Ledger.{newLedger, openedLedger, dueOf, givenYear, givenYears, ledgerOf}
-use Rattle.reckoner.specs.Calls.{answerNumber, openCall, yearCall, closedBuffer, dossierCall, reckonSays, reckonNumber, reckonBuffer}
+use Rattle.reckoner.specs.Calls.{openCall, dossierCall, reckonSays, reckonNumber, reckonBuffer}
 use Rattle.reckoner.proofs.Numbers.{number-zero}
 use Rattle.sheet.specs.Sheet.{sheetOf}
 use Rattle.printout.specs.Printout.{printed, printout}
-use Rattle.promises.specs.CallList.{Call, giving, called, afterCall, afterCalls, ledgerAfter, LentBytes, broughtYear, acceptedYears, yearsAfter, standingCalls, standing}
+use Rattle.promises.specs.CallList.{Call, afterCalls, ledgerAfter, LentBytes, acceptedYears, yearsAfter, standingCalls, standing}
 use Rattle.promises.specs.Reported.{Reported}
 use Rattle.promises.specs.Lists.{openedDue, ListAssured}
 use Rattle.promises.specs.Dossiers.{SameInPieces, yearCalls, DossierAssured, CallAssured}

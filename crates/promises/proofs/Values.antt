@@ -18,7 +18,7 @@ use Rattle.dossier.proofs.Causes.{dossier-causes}
 use Rattle.reckoner.specs.declared.Ledger.{Ledger}
 use Rattle.reckoner.specs.declared.Answer.{Answer}
 use Rattle.reckoner.specs.declared.Step.{Step}
-use Rattle.reckoner.specs.Ledger.{report, ledgerOf}
+use Rattle.reckoner.specs.Ledger.{report}
 use Rattle.reckoner.specs.Calls.{answered, said, closeCall, closeSays, closedBuffer, HandedBack, whole, dossierJudged, dossierCall, reckonSays, reckonBuffer}
 use Rattle.reckoner.proofs.Invariant.{handed-kept}
 use Rattle.promises.specs.Values.{Told, ValuesTold}

@@ -9,7 +9,6 @@ use lib.ListN.{length, getD, length-set}
 use lib.Seq.{getD-set-same, getD-set-other}
 use Rattle.classes.specs.Classes.{emissionFactor}
 use Rattle.classes.specs.Matrix.{RowsSum}
-use Rattle.projection.specs.declared.Region.{Region}
 use Rattle.figures.specs.Figures.{noFigures}
 use Rattle.figures.specs.Year.{Year}
 use Rattle.figures.specs.Reckoning.{yearFigures, recordCount, afterFigures, afterYear}

@@ -1,7 +1,7 @@
 -- Demand 1: "totals or one numbered refusal"; a refusal returns its number, no totals, and leaves ledger and buffer as they were. The number is one
 -- of the call's own causes.
 -- To be believed. Assumes nothing.
-use Prim.Native.Nat.{ℕ, _≤_}
+use Prim.Native.Nat.{ℕ}
 use mathlib.Core.Path.{_≡_}
 use mathlib.Core.List.{List}
 use lib.ListN.{length}

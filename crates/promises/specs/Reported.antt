@@ -13,7 +13,7 @@ use Rattle.figures.specs.declared.Figures.{Figures}
 use Rattle.figures.specs.Figures.{tonnesOf, noFigures}
 use Rattle.figures.specs.Year.{Year}
 use Rattle.figures.specs.Reckoning.{yearFigures, recordCount}
-use Rattle.assurance.specs.Unrounded.{Unrounded, openedᶠ, afterYearsᶠ}
+use Rattle.assurance.specs.Unrounded.{openedᶠ, afterYearsᶠ}
 use Rattle.assurance.specs.Assurance.{RegionAssured, TotalAssured}
 use Rattle.wire.specs.Signed.{figureAt}
 use Rattle.report.specs.Report.{eight}

@@ -1,7 +1,7 @@
 -- Years given to a ledger one after the other: what the code's step says of each, where the loop over them stands, and how it ends.
 -- Assumes nothing.
-use Prim.Native.Nat.{ℕ, zero, suc, _+_, _-_, _≤_, _<_}
-use mathlib.Core.Path.{_≡_, refl, _∙_, ap, sym}
+use Prim.Native.Nat.{ℕ, suc, _+_, _-_, _≤_, _<_}
+use mathlib.Core.Path.{_≡_, refl, _∙_, sym}
 use mathlib.Core.Bool.{Bool, true, false, cond}
 use mathlib.Core.List.{List}
 use native.Mathlib.Omega.{arith}
@@ -14,7 +14,6 @@ use Rattle.classes.specs.Classes.{emissionFactor}
 use Rattle.classes.specs.Matrix.{entry, tableOf}
 use Rattle.projection.specs.Ranges.{FactorsFit}
 use Rattle.figures.specs.declared.Terms.{Terms}
-use Rattle.figures.specs.declared.State.{State}
 use Rattle.figures.specs.Year.{Year}
 use Rattle.figures.specs.Figures.{countedFactor}
 use Rattle.figures.proofs.CountedLaws.{factors-fit, counted-fit}
@@ -30,7 +29,7 @@ use Rattle.reckoning.specs.Step.{yearAdvanced, steppedYear, stepSays, stepInsid
 use Rattle.reckoning.proofs.StepLaws.{step-is}
 use Rattle.reckoner.specs.declared.Ledger.{Ledger}
 use Rattle.reckoner.specs.Ledger.{dueOf, givenYear}
-use Rattle.reckoner.specs.Parts.{NewlyOpened, InUse, handed, newly, giveYears}
+use Rattle.reckoner.specs.Parts.{InUse, handed, newly, giveYears}
 use Rattle.reckoner.proofs.Invariant.{LedgerKept, due-kept, opened-kept, given-kept, handed-kept}
 
 -- the tables of emission factors, of projected and of monitored conversions, that the terms give

@@ -5,7 +5,7 @@ use mathlib.Core.List.{List}
 use Prim.Native.Nat.{ℕ}
 use lib.ListN.{drop}
 use Rattle.wire.specs.Bytes.{Bytes}
-use Rattle.dossier.specs.Reader.{refused, _>>=_, _>>_, give, endOfPiece}
+use Rattle.dossier.specs.Reader.{_>>=_, _>>_, give, endOfPiece}
 use Rattle.dossier.specs.Judging.{year, yearPiece}
 use Rattle.cursor.specs.Answers.{numberSays}
 use Rattle.dossier.proofs.ReaderLaws.{bind-no, bind-yes, Made, made-no, made-yes}

@@ -1,6 +1,6 @@
 -- `ledgertrace::trace_call` meets its contract: the list has one call less, or has ended.
 -- Assumes nothing.
-use Prim.Native.Nat.{ℕ, _≤_}
+use Prim.Native.Nat.{_≤_}
 use mathlib.Core.List.{_++_}
 use native.Mathlib.Omega.{arith}
 use lib.ListN.{length, drop}

@@ -10,9 +10,8 @@ use Rattle.arithmetic.specs.Sum.{sum}
 use Rattle.arithmetic.proofs.SumLaws.{sum-none, sum-next, term-le}
 use Rattle.classes.specs.declared.AreaUnits.{AreaUnits}
 use Rattle.classes.specs.Matrix.{entry}
-use Rattle.projection.specs.Projection.{area, areaTotal, flow, nextArea}
+use Rattle.projection.specs.Projection.{area, flow, nextArea}
 use Rattle.projection.specs.Inflow.{inflowCarbon}
-use Rattle.projection.specs.Ranges.{RowsWithin, FactorsFit}
 use Rattle.projection.proofs.ProjectionLaws.{fitting-le, probability-le, inflow-next, inflow-carbon-next}
 use Rattle.projection.proofs.flows_into.Statement.{statement}
 use Rattle.projection.proofs.flows_into.Tie as tie

@@ -1,7 +1,6 @@
 -- `sheet::put_year_line` meets its contract: the year, its eight figures and a line feed, one after the other.
 -- Assumes nothing.
 use native.Mathlib.Omega.{arith}
-use borrow.Author.Needs.{needs}
 use Rattle.sheet.specs.Sheet.{yearLine}
 use Rattle.sheet.proofs.DecimalLaws.{length-decimal}
 use Rattle.sheet.proofs.SheetLaws.{length-spaced}

@@ -1,6 +1,5 @@
 -- `reckoner::Ledger::of_dossier` meets its contract: the opening is read, and the years that follow it are given.
 -- Assumes nothing.
-use mathlib.Core.Path.{_∙_}
 use borrow.Author.Needs.{needs}
 use Rattle.reckoner.proofs.OpenLaws.{refused-handed, newly-opened}
 use Rattle.reckoner.proofs.DossierLaws.{dossier-no, dossier-is, dossier-handed}
