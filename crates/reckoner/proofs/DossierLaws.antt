@@ -6,6 +6,8 @@ use mathlib.Core.List.{List, [], _∷_, _++_}
 use native.Mathlib.Omega.{arith}
 use lib.ListN.{drop}
 use Rattle.wire.specs.Bytes.{Bytes}
+use Rattle.figures.specs.declared.Terms.{Terms}
+use Rattle.figures.specs.declared.State.{State}
 use Rattle.figures.specs.Year.{Year}
 use Rattle.dossier.specs.Records.{Opening, termsOf, stateOf, settled, next}
 use Rattle.dossier.specs.Reader.{Judged, refused, accepted, after, _>>=_, _>>_, give}
@@ -22,7 +24,7 @@ use Rattle.reckoner.specs.declared.Answer.{Answer}
 use Rattle.reckoner.specs.declared.Step.{Step}
 use Rattle.reckoner.specs.declared.Given.{Given}
 use Rattle.reckoner.specs.Ledger.{newLedger, openedLedger, dueOf, givenYear, givenYears, ledgerOf}
-use Rattle.reckoner.specs.Parts.{giveYears, givenSays, yearsJudged, yearsCall}
+use Rattle.reckoner.specs.Parts.{giveYears, givenSays}
 use Rattle.reckoner.specs.Calls.{refusedOpening, dossierJudged, dossierCall, HandedBack, whole}
 use Rattle.reckoner.proofs.OpenLaws.{read, read-ledger}
 
@@ -73,14 +75,25 @@ given-yes (suc k) l before u v m e = go (λ y w. given-yes k (givenYear y l) (be
         }
 
 -- ---- a newly opened ledger given all the years from u on, and EN
-module _ (l : Ledger) (s u : List ℕ) (r : Given) (says : givenSays s r ≡ giveYears (l .state .left) l u) where
+abbrev yearsJudged : Ledger → Judged (List Year) → Step
+yearsJudged l (refused n) = refusedOpening n
+yearsJudged l (accepted ys rest) = record { ledger = givenYears ys l; answer = Answer.Accepted }
+
+unfoldable pub yearsCall : Ledger → List ℕ → Step
+yearsCall l s = yearsJudged l (years (l .state .left) (dueOf l) [] s)
+
+module _ (terms : Terms) (state : State) (l : Ledger) (el : l ≡ newLedger terms state) (s u : List ℕ) (r : Given) (says : givenSays s r ≡ giveYears (state .left) l u) where
+  all-left : givenSays s r ≡ giveYears (l .state .left) l u
+  unfolding newLedger
+  all-left = let z : state .left ≡ l .state .left = rw el in says ∙ ap (λ (k : ℕ). giveYears k l u) z
+
   pub years-no : (n : ℕ) → r .answer ≡ StepAnswer.Refused n → refusedOpening n ≡ yearsCall l u
   unfolding yearsCall
-  years-no n e = ap (yearsJudged l) (given-no (l .state .left) l [] u n (rw e at says))
+  years-no n e = ap (yearsJudged l) (given-no (l .state .left) l [] u n (rw e at all-left))
 
   module _ (at : ℕ) (e : r .answer ≡ StepAnswer.Next at) (n : ℕ) (ends : numberSays [] n ≡ end (drop at s)) where
     taken : Taken (l .state .left) l [] u (drop at s) (r .ledger)
-    taken = given-yes (l .state .left) l [] u (drop at s) (r .ledger) (rw e at says)
+    taken = given-yes (l .state .left) l [] u (drop at s) (r .ledger) (rw e at all-left)
 
     pub years-fault : (n ≡ 0 → ⊥) → refusedOpening n ≡ yearsCall l u
     unfolding yearsCall

@@ -2,10 +2,10 @@
 -- Assumes nothing.
 use mathlib.Core.Path.{_≡_, refl, _∙_, ap, sym}
 use mathlib.Core.List.{List, []}
-use Prim.Native.Nat.{ℕ}
+use Prim.Native.Nat.{ℕ, _≤_}
 use native.Mathlib.Omega.{arith}
 use lib.Dec.{lit<}
-use lib.ListN.{drop}
+use lib.ListN.{length, drop}
 use Rattle.wire.specs.Bytes.{Bytes}
 use Rattle.figures.specs.declared.Terms.{Terms}
 use Rattle.figures.specs.declared.State.{State}
@@ -17,7 +17,7 @@ use Rattle.dossier.proofs.OpeningLaws.{opening-exact}
 use Rattle.dossier.proofs.ReaderLaws.{Made, made-no, made-yes}
 use Rattle.opening.specs.declared.OpeningAnswer.{OpeningAnswer}
 use Rattle.opening.specs.declared.Opened.{Opened}
-use Rattle.opening.specs.Answers.{openedSays, settledOpening, settledPiece}
+use Rattle.opening.specs.Answers.{openedSays, openedInside, settledOpening, settledPiece}
 use Rattle.reckoner.specs.declared.Ledger.{Ledger}
 use Rattle.reckoner.specs.declared.Answer.{Answer}
 use Rattle.reckoner.specs.declared.Step.{Step}
@@ -54,6 +54,9 @@ module _ (s : List ℕ) (r : Opened) (says : openedSays s r ≡ settledPiece s) 
 module _ (s : List ℕ) (r : Opened) (says : openedSays s r ≡ settledOpening s) (next : ℕ) (e : r .answer ≡ OpeningAnswer.Read next) where
   pub read : Made (opening s) settled (record { terms = r .terms; state = r .state }) (drop next s)
   read = unfold settledOpening _>>=_ in made-yes (opening s) settled _ (drop next s) (rw e at says)
+
+  pub inside : openedInside s r → next ≤ length s
+  inside i = rw e at i
 
   pub read-ledger : newLedger (r .terms) (r .state) ≡ openedLedger (read .value)
   read-ledger = due-ledger (r .terms) (r .state) (read .value) (read .made)

@@ -2,19 +2,16 @@
 -- Serves contracts of inner functions and proofs; nothing here has to be believed. Assumes nothing.
 use Prim.Native.Nat.{ℕ, zero, suc, _^_, _≤_, _<_}
 use mathlib.Core.Path.{_≡_}
-use mathlib.Core.List.{List, []}
+use mathlib.Core.List.{List}
 use lib.ListN.{length, drop}
-use Rattle.figures.specs.Year.{Year}
 use Rattle.dossier.specs.Records.{Opening, OpeningInRange}
 use Rattle.dossier.specs.Reader.{Judged, refused, accepted, Reader, _>>=_, give}
 use Rattle.dossier.specs.Judging.{year, years}
 use Rattle.reckoning.specs.declared.StepAnswer.{StepAnswer}
 use Rattle.reckoner.specs.declared.Ledger.{Ledger}
-use Rattle.reckoner.specs.declared.Answer.{Answer}
-use Rattle.reckoner.specs.declared.Step.{Step}
 use Rattle.reckoner.specs.declared.Given.{Given}
-use Rattle.reckoner.specs.Ledger.{openedLedger, dueOf, givenYear, givenYears}
-use Rattle.reckoner.specs.Calls.{refusedOpening, HandedBack}
+use Rattle.reckoner.specs.Ledger.{openedLedger, dueOf, givenYear}
+use Rattle.reckoner.specs.Calls.{HandedBack}
 
 -- a ledger opened from records in range, with no year given yet
 pub record NewlyOpened (l : Ledger) : Type 0 where
@@ -53,11 +50,3 @@ givenFacts s (StepAnswer.Refused n) = Unit {0}
 
 abbrev pub givenInside : List ℕ → Given → Type 0
 givenInside s r = givenFacts s (r .answer)
-
--- the years that a newly opened ledger has to come, and EN
-abbrev pub yearsJudged : Ledger → Judged (List Year) → Step
-yearsJudged l (refused n) = refusedOpening n
-yearsJudged l (accepted ys rest) = record { ledger = givenYears ys l; answer = Answer.Accepted }
-
-unfoldable pub yearsCall : Ledger → List ℕ → Step
-yearsCall l s = yearsJudged l (years (l .state .left) (dueOf l) [] s)

@@ -8,7 +8,7 @@ ghost use mathlib.Core.Path.{_≡_};
 ghost use Prim.Native.Nat.{_≤_, _<_};
 ghost use lib.ListN.{length, drop};
 ghost use Rattle.reckoner.specs.Ledger.{newLedger, firstYear};
-ghost use Rattle.reckoner.specs.Parts.{NewlyOpened, InUse, Closable, givenSays, givenInside, giveYears, yearsCall};
+ghost use Rattle.reckoner.specs.Parts.{InUse, Closable, givenSays, givenInside, giveYears};
 ghost use Rattle.reckoner.specs.Calls.{refusedOpening, openCall, yearCall, closeCall, closeSays, closedBuffer, dossierCall, HandedBack, reckonNumber, reckonBuffer};
 
 // A ledger: the years given, what its opening settled, the state that years change, and the figures of the years given.
@@ -127,30 +127,6 @@ fn give_years(s: &[u8], from: usize, mut ledger: Ledger, count: u64) -> Given
     }
 }
 
-// A newly opened ledger given all the years of a dossier from a place on, and EN.
-fn all_years(s: &[u8], from: usize, ledger: Ledger) -> Step
-    requires { ⌜ (from ≤ length (now s)) × NewlyOpened ledger ⌝ }
-    ensures { λ r. ⌜ r ≡ yearsCall ledger (drop from (now (s .entry))) ⌝ }
-{
-    let state = ledger.state;
-    let given = give_years(s, from, ledger, state.left);
-    let answer = given.answer;
-    let ledger = given.ledger;
-    match answer {
-        StepAnswer::Refused(n) => refused_opening(n),
-        StepAnswer::Next(next) => {
-            let fault = years::read_end(s, next);
-            if fault != 0 {
-                return refused_opening(fault);
-            }
-            Step {
-                ledger,
-                answer: Answer::Accepted,
-            }
-        }
-    }
-}
-
 impl Ledger {
     // Opened from HD to DA, or to MP under Option 2; an empty ledger where that is refused.
     pub fn open(piece: &[u8]) -> Step
@@ -247,7 +223,24 @@ impl Ledger {
         let state = opened.state;
         match answer {
             OpeningAnswer::Refused(n) => refused_opening(n),
-            OpeningAnswer::Read(next) => all_years(dossier, next, new_ledger(terms, state)),
+            OpeningAnswer::Read(next) => {
+                let given = give_years(dossier, next, new_ledger(terms, state), state.left);
+                let answer = given.answer;
+                let ledger = given.ledger;
+                match answer {
+                    StepAnswer::Refused(n) => refused_opening(n),
+                    StepAnswer::Next(next) => {
+                        let fault = years::read_end(dossier, next);
+                        if fault != 0 {
+                            return refused_opening(fault);
+                        }
+                        Step {
+                            ledger,
+                            answer: Answer::Accepted,
+                        }
+                    }
+                }
+            }
         }
     }
 }

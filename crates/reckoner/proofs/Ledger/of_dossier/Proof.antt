@@ -1,10 +1,37 @@
--- `reckoner::Ledger::of_dossier` meets its contract: the opening is read, and the years that follow it are given.
+-- `reckoner::Ledger::of_dossier` meets its contract: the opening is read, all its years are given, and EN follows them.
 -- Assumes nothing.
+use mathlib.Core.Path.{_≡_}
+use lib.ListN.{drop}
 use borrow.Author.Needs.{needs}
-use Rattle.reckoner.proofs.OpenLaws.{refused-handed, newly-opened}
-use Rattle.reckoner.proofs.DossierLaws.{dossier-no, dossier-is, dossier-handed}
+use Rattle.wire.specs.Bytes.{Bytes}
+use Rattle.reckoner.specs.declared.Step.{Step}
+use Rattle.reckoner.specs.Parts.{newly}
+use Rattle.reckoner.specs.Calls.{dossierCall}
+use Rattle.reckoner.proofs.OpenLaws.{inside, refused-handed, newly-opened}
+use Rattle.reckoner.proofs.DossierLaws.{dossier-no, dossier-is, dossier-handed, yearsCall, years-no, years-fault, years-yes}
 use Rattle.reckoner.proofs.Ledger.of_dossier.Statement.{statement}
 use Rattle.reckoner.proofs.Ledger.of_dossier.Tie as tie
+
+-- the places: the opening's answer, the opening itself, the lent bytes and the start
+abbrev at-answer : tie.After-new-ledger → tie.After-answer2
+at-answer c = c .before .before
+
+abbrev at-opening : tie.After-answer2 → tie.After-read-opening
+at-opening c = c .before .before .before .before
+
+abbrev at-start : tie.After-read-opening → tie.Start
+at-start c = c .before .before
+
+lent : (c : tie.After-read-opening) → Bytes (at-start c .args .dossier .now)
+lent c k = c .before .shared-slice-known .given k .fits
+
+-- what becomes of the years is what becomes of the dossier
+is : (c : tie.After-new-ledger) (r : Step)
+    → r ≡ yearsCall (c .new-ledger .result) (drop (at-answer c .answer2 .given .0 .0) (at-start (at-opening (at-answer c)) .args .dossier .now))
+    → r ≡ dossierCall (at-start (at-opening (at-answer c)) .args .dossier .now)
+is c r e =
+    let read = at-answer c in
+    dossier-is _ _ (at-opening read .read-opening .ensures .0) _ (read .answer2 .given .1) _ (c .new-ledger .ensures) r e
 
 read-opening-requires : tie.Need-read-opening-requires
 read-opening-requires c κs = search needs
@@ -21,28 +48,57 @@ enum-known-answer-2 c = search needs
 new-ledger-requires : tie.Need-new-ledger-requires
 new-ledger-requires c κs = search needs
 
-all-years-requires : tie.Need-all-years-requires
-all-years-requires c κs =
-    let at-answer = c .before .before in
-    let at-opening = at-answer .before .before .before .before in
-    let read = at-answer .answer2 .given .1 in
-    let opened = at-opening .read-opening in
-    (rw read at (opened .ensures .1), newly-opened _ _ (opened .ensures .0) _ read (λ k. at-opening .before .shared-slice-known .given k .fits) _ (c .new-ledger .ensures))
+give-years-requires : tie.Need-give-years-requires
+give-years-requires c κs =
+    let read = at-answer c .answer2 .given .1 in
+    let opening = at-opening (at-answer c) in
+    let (says, within) = opening .read-opening .ensures in
+    (inside _ _ says _ read within, newly (newly-opened _ _ says _ read (lent opening) _ (c .new-ledger .ensures)))
+
+enum-known-answer-3 : tie.Need-enum-known-answer-3
+enum-known-answer-3 c = search needs
+
+refused-opening-requires-2 : tie.Need-refused-opening-requires-2
+refused-opening-requires-2 c κs = search needs
+
+enum-known-answer-4 : tie.Need-enum-known-answer-4
+enum-known-answer-4 c = search needs
+
+read-end-requires : tie.Need-read-end-requires
+read-end-requires c κs =
+    let next = c .before in
+    rw (next .answer4 .given .1) at (next .before .before .before .give-years .ensures .1)
+
+refused-opening-requires-3 : tie.Need-refused-opening-requires-3
+refused-opening-requires-3 c κs = search needs
 
 returns : tie.Need-returns
 returns c =
-    let at-answer = c .before .before in
-    let opened = at-answer .before .before .before .before .read-opening in
-    refused-handed _ _ _ (c .refused-opening .ensures) (dossier-no _ _ (opened .ensures .0) _ (at-answer .answer .given .1))
+    let end = c .before .before in
+    let next = end .before .before in
+    let given = next .before .before .before in
+    let fault = years-fault _ _ _ (given .before .new-ledger .ensures) _ _ _ (given .give-years .ensures .0) _ (next .answer4 .given .1) _ (end .read-end .ensures) (c .before .if1 .taken) in
+    refused-handed _ _ _ (c .refused-opening3 .ensures) (is (given .before) _ fault)
 
 returns-2 : tie.Need-returns-2
 returns-2 c =
-    let at-new = c .before in
-    let at-answer = at-new .before .before in
-    let at-opening = at-answer .before .before .before .before in
-    let opened = at-opening .read-opening in
-    dossier-handed _ (λ k. at-opening .before .shared-slice-known .given k .fits) _
-    (dossier-is _ _ (opened .ensures .0) _ (at-answer .answer2 .given .1) _ (at-new .new-ledger .ensures) _ (c .all-years .ensures))
+    let no = c .before .before in
+    let opening = no .before .before .before .before in
+    refused-handed _ _ _ (c .refused-opening .ensures) (dossier-no _ _ (opening .read-opening .ensures .0) _ (no .answer .given .1))
+
+returns-3 : tie.Need-returns-3
+returns-3 c =
+    let no = c .before .before in
+    let given = no .before .before .before in
+    refused-handed _ _ _ (c .refused-opening2 .ensures) (is (given .before) _ (years-no _ _ _ (given .before .new-ledger .ensures) _ _ _ (given .give-years .ensures .0) _ (no .answer3 .given .1)))
+
+returns-4 : tie.Need-returns-4
+returns-4 c =
+    let end = c .before in
+    let next = end .before .before in
+    let given = next .before .before .before in
+    let taken = years-yes _ _ _ (given .before .new-ledger .ensures) _ _ _ (given .give-years .ensures .0) _ (next .answer4 .given .1) _ (end .read-end .ensures) (c .if1 .left) in
+    dossier-handed _ (lent (at-opening (at-answer (given .before)))) _ (is (given .before) _ taken)
 
 pub of-dossier-spec : {M : Type 1} → statement M
 of-dossier-spec =
@@ -53,6 +109,13 @@ of-dossier-spec =
     refused-opening-requires
     enum-known-answer-2
     new-ledger-requires
-    all-years-requires
+    give-years-requires
+    enum-known-answer-3
+    refused-opening-requires-2
+    enum-known-answer-4
+    read-end-requires
+    refused-opening-requires-3
     returns
-    returns-2)
+    returns-2
+    returns-3
+    returns-4)
