@@ -7,14 +7,14 @@ use mathlib.Core.List.{List}
 use native.Mathlib.Omega.{arith}
 use lib.Dec.{T}
 use Rattle.wire.specs.Bytes.{Bytes}
-use Rattle.dossier.specs.Causes.{openingCauses, yearCauses, dossierCauses}
+use Rattle.dossier.specs.Causes.{openingCauses, yearCauses}
 use Rattle.dossier.specs.Records.{Due, WellFormedOpening, WellFormedYear}
-use Rattle.dossier.specs.Claims.{DueInRange, WellFormed, numberOf, AcceptedExactly}
+use Rattle.dossier.specs.Claims.{DueInRange, numberOf, AcceptedExactly}
 use Rattle.dossier.specs.Reader.{Judged, refused, accepted, Reader}
-use Rattle.dossier.specs.Judging.{dossier, openingPiece, yearPiece}
+use Rattle.dossier.specs.Judging.{openingPiece, yearPiece}
 use Rattle.dossier.proofs.CauseLaws.{allPositive, positive}
-use Rattle.dossier.proofs.Causes.{Numbered, dossier-causes, openingPiece-causes, yearPiece-causes}
-use Rattle.dossier.proofs.WellFormed.{dossier-accepted, opening-accepted, year-accepted}
+use Rattle.dossier.proofs.Causes.{Numbered, openingPiece-causes, yearPiece-causes}
+use Rattle.dossier.proofs.WellFormed.{opening-accepted, year-accepted}
 
 number-zero : {A : Type 0} {r : Reader A} {Q : A → Type 0} {e : A → List ℕ} → AcceptedExactly r Q e → (allowed : List ℕ) → T (allPositive allowed)
     → Numbered allowed r → (s : List ℕ) → Bytes s → ((a : A) × Q a × (s ≡ e a)) ↔ (numberOf (r s) ≡ 0)
@@ -29,9 +29,6 @@ number-zero {A} {r} {Q} {e} x allowed some causes s b = (there, back (r s) refl)
         let y : n ≡ 0 = sym (ap numberOf d) ∙ z in
         absurd (omega arith)
     back (accepted a t) d z = let w = x .sound s b a t d in (a, w .0, w .1)
-
-pub dossier-zero : (s : List ℕ) → Bytes s → WellFormed s ↔ (numberOf (dossier s) ≡ 0)
-dossier-zero = number-zero dossier-accepted dossierCauses tt dossier-causes
 
 pub opening-zero : (s : List ℕ) → Bytes s → WellFormedOpening s ↔ (numberOf (openingPiece s) ≡ 0)
 opening-zero = number-zero opening-accepted openingCauses tt openingPiece-causes

@@ -26,16 +26,6 @@ pub step : {A B : Type 0} (j : Judged A) (f : A → Reader B) {b : B} {t : List 
 step (refused n) f e = no _ _ _ e
 step (accepted a u) f e = (a, u, refl, e)
 
-pub bind-only : {A B G : Type 0} (r : Reader A) (k : A → Reader B) (s : List ℕ) {b : B} {t : List ℕ} → (r >>= k) s ≡ accepted b t
-    → ((a : A) (u : List ℕ) → r s ≡ accepted a u → k a u ≡ accepted b t → G) → G
-unfolding _>>=_
-bind-only r k s q f = let w = step (r s) k q in f (w .0) (w .1) (w .2) (w .3)
-
-pub then-only : {A B G : Type 0} (r : Reader A) (q : Reader B) (s : List ℕ) {b : B} {t : List ℕ} → (r >> q) s ≡ accepted b t
-    → ((a : A) (u : List ℕ) → r s ≡ accepted a u → q u ≡ accepted b t → G) → G
-unfolding _>>_
-then-only r q s e f = let w = step (r s) (λ _. q) e in f (w .0) (w .1) (w .2) (w .3)
-
 -- one reader after another, from what the first one gives: its refusal is the whole's
 pub bind-no : {A B : Type 0} (r : Reader A) (k : A → Reader B) (u : List ℕ) (n : ℕ) → refused n ≡ r u → refused n ≡ (r >>= k) u
 unfolding _>>=_

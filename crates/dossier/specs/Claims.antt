@@ -5,7 +5,7 @@ use mathlib.Core.Path.{_≡_}
 use mathlib.Core.List.{List, []}
 use Rattle.wire.specs.Bytes.{Bytes}
 use Rattle.classes.specs.Classes.{greatestArea}
-use Rattle.dossier.specs.Records.{Due, Dossier, DossierInRange, dossierBytes}
+use Rattle.dossier.specs.Records.{Due}
 use Rattle.dossier.specs.Reader.{Reader, Judged, refused, accepted}
 
 -- accepted exactly when well formed: bytes are accepted with a value just where the value is in range and they are its bytes, to the last
@@ -18,10 +18,6 @@ pub record DueInRange (due : Due) : Type 0 where
   pub year : due .state .year < 65536
   pub start : due .terms .start .0 ≤ greatestArea
   pub beltstart : due .terms .beltstart .0 ≤ greatestArea
-
--- the bytes of a dossier in range
-abbrev pub WellFormed : List ℕ → Type 0
-WellFormed s = (d : Dossier) × DossierInRange d × (s ≡ dossierBytes d)
 
 -- the number of what was judged: 0 where nothing is refused
 abbrev pub numberOf : {A : Type 0} → Judged A → ℕ
