@@ -3,7 +3,6 @@
 use Prim.Native.Nat.{ℕ, zero, suc}
 use mathlib.Core.Path.{_≡_, refl, _∙_, ap, sym}
 use mathlib.Core.List.{List, [], _∷_, _++_}
-use native.Mathlib.Omega.{arith}
 use lib.ListN.{drop}
 use Rattle.wire.specs.Bytes.{Bytes}
 use Rattle.figures.specs.declared.Terms.{Terms}
@@ -13,7 +12,7 @@ use Rattle.dossier.specs.Records.{Opening, termsOf, stateOf, settled, next}
 use Rattle.dossier.specs.Reader.{Judged, refused, accepted, after, _>>=_, _>>_, give}
 use Rattle.dossier.specs.Judging.{opening, year, end, years, dossier}
 use Rattle.cursor.specs.Answers.{numberSays}
-use Rattle.dossier.proofs.ReaderLaws.{bind-yes}
+use Rattle.dossier.proofs.ReaderLaws.{no, never, bind-no, bind-yes, made-no}
 use Rattle.cursor.proofs.AtLaws.{number-no, number-yes}
 use Rattle.opening.specs.declared.OpeningAnswer.{OpeningAnswer}
 use Rattle.opening.specs.declared.Opened.{Opened}
@@ -41,7 +40,7 @@ due-next y l = refl
 -- a year that the ledger refuses, the judgement refuses
 given-no : (k : ℕ) (l : Ledger) (before : List Year) (u : List ℕ) (n : ℕ) → refused n ≡ giveYears k l u → refused n ≡ years k (dueOf l) before u
 unfolding giveYears years give _>>=_
-given-no zero l before u n e = let z : _≡_ {A = ℕ} 0 1 = cc in absurd (omega arith)
+given-no zero l before u n e = no _ _ _ e
 given-no (suc k) l before u n e = go (λ y v f. rw (← due-next y l) (given-no k (givenYear y l) (before ++ (y ∷ [])) v n f)) (year (dueOf l) u) e
   where
     go : ((y : Year) (v : List ℕ) → refused n ≡ giveYears k (givenYear y l) v → refused n ≡ years k (next y (dueOf l)) (before ++ (y ∷ [])) v) → (j : Judged Year)
@@ -65,7 +64,7 @@ given-yes (suc k) l before u v m e = go (λ y w. given-yes k (givenYear y l) (be
   where
     go : ((y : Year) (w : List ℕ) → accepted m v ≡ giveYears k (givenYear y l) w → Taken k (givenYear y l) (before ++ (y ∷ [])) w v m) → (j : Judged Year)
         → year (dueOf l) u ≡ j → accepted m v ≡ after j (λ y. giveYears k (givenYear y l)) → Taken (suc k) l before u v m
-    go more (refused n) ej f = let z : _≡_ {A = ℕ} 0 1 = cc in absurd (omega arith)
+    go more (refused n) ej f = never _ _ _ f
     go more (accepted y w) ej f =
         let t = more y w f in
         record {
@@ -107,11 +106,7 @@ module _ (terms : Terms) (state : State) (l : Ledger) (el : l ≡ newLedger term
 module _ (s : List ℕ) (r : Opened) (says : openedSays s r ≡ settledOpening s) where
   pub dossier-no : (n : ℕ) → r .answer ≡ OpeningAnswer.Refused n → refusedOpening n ≡ dossierCall s
   unfolding dossierCall dossier settledOpening _>>=_
-  dossier-no n e = go (opening s) (rw e at says)
-    where
-      go : (j : Judged Opening) → refused n ≡ after j (λ o. give (settled o)) → refusedOpening n ≡ dossierJudged (after j (λ o. years (o .head .years) (settled o) [] >>= λ ys. give (record { opening = o; years = ys })))
-      go (refused m) q = let k : n ≡ m = cc in rw k
-      go (accepted o u) q = unfold give in let z : _≡_ {A = ℕ} 0 1 = cc in absurd (omega arith)
+  dossier-no n e = ap dossierJudged (bind-no opening _ s n (made-no (opening s) settled n (rw e at says)))
 
   module _ (next : ℕ) (e : r .answer ≡ OpeningAnswer.Read next) where
     pub dossier-is : (l : Ledger) → l ≡ newLedger (r .terms) (r .state) → (step : Step) → step ≡ yearsCall l (drop next s) → step ≡ dossierCall s

@@ -36,7 +36,6 @@ use Rattle.dossier.proofs.WellFormed.{dossier-accepted, opening-accepted, year-
 use Rattle.reckoning.specs.Step.{SmallState}
 use Rattle.reckoner.specs.declared.Ledger.{Ledger}
 use Rattle.reckoner.specs.Ledger.{newLedger, emptyLedger, openedLedger, dueOf, givenYear, givenYears, ledgerOf}
-use Rattle.reckoner.specs.Parts.{Closable}
 use Rattle.reckoner.specs.Calls.{openJudged, openCall, yearJudged, yearCall, dossierJudged, dossierCall, HandedBack, opened, given, whole}
 use Rattle.reckoner.proofs.YearRanges.{figures-range}
 use Rattle.reckoner.proofs.RegionKept.{RegionKept, zero-region, opened-region, projected-kept}
@@ -61,9 +60,6 @@ state-kept l k = record { year = omega arith; project = omega (arith, k .project
 pub due-kept : (l : Ledger) → LedgerKept l → DueInRange (dueOf l)
 unfolding dueOf
 due-kept l k = record { year = omega arith; start = k .project .small; beltstart = k .belt .small }
-
-pub closable : (l : Ledger) → LedgerKept l → Closable l
-closable l k = record { years = omega (arith, k .count); balance = omega (arith, k .project); beltBalance = omega (arith, k .belt) }
 
 -- ---- the empty ledger
 zero-row : (i : ℕ) → i < classes → sum classes (entry (replicate 144 0) i) ≡ 0

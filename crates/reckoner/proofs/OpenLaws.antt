@@ -9,11 +9,13 @@ use lib.ListN.{length, drop}
 use Rattle.wire.specs.Bytes.{Bytes}
 use Rattle.figures.specs.declared.Terms.{Terms}
 use Rattle.figures.specs.declared.State.{State}
-use Rattle.dossier.specs.Records.{Opening, Due, settled}
+use Rattle.dossier.specs.Records.{Opening, OpeningInRange, openingBytes, Due, settled}
 use Rattle.dossier.specs.Reader.{_>>=_, _>>_, mark, begin}
 use Rattle.dossier.specs.JudgingRecords.{head}
 use Rattle.dossier.specs.Judging.{opening, openingPiece}
+use Rattle.wire.proofs.BytesLaws.{bytes-before}
 use Rattle.dossier.proofs.OpeningLaws.{opening-exact}
+use Rattle.dossier.proofs.WellFormed.{opening-accepted}
 use Rattle.dossier.proofs.ReaderLaws.{Made, made-no, made-yes}
 use Rattle.opening.specs.declared.OpeningAnswer.{OpeningAnswer}
 use Rattle.opening.specs.declared.Opened.{Opened}
@@ -22,7 +24,6 @@ use Rattle.reckoner.specs.declared.Ledger.{Ledger}
 use Rattle.reckoner.specs.declared.Answer.{Answer}
 use Rattle.reckoner.specs.declared.Step.{Step}
 use Rattle.reckoner.specs.Ledger.{newLedger, emptyLedger, openedLedger}
-use Rattle.reckoner.specs.Parts.{NewlyOpened}
 use Rattle.reckoner.specs.Calls.{refusedOpening, openJudged, openCall, HandedBack, opened}
 
 -- the empty ledger is handed back by an opening of no bytes
@@ -50,6 +51,11 @@ module _ (s : List ℕ) (r : Opened) (says : openedSays s r ≡ settledPiece s) 
       let m = made-yes (openingPiece s) settled _ (drop next s) (rw e at says) in
       rw (el, due-ledger (r .terms) (r .state) (m .value) (m .made)) (ap openJudged (m .judged))
 
+-- an opening piece of records in range is opened
+opened-again : (o : Opening) → OpeningInRange o → openCall (openingBytes o) .ledger ≡ openedLedger o
+unfolding openCall
+opened-again o h = rw (opening-accepted .complete o h)
+
 -- ---- the opening of a dossier
 module _ (s : List ℕ) (r : Opened) (says : openedSays s r ≡ settledOpening s) (next : ℕ) (e : r .answer ≡ OpeningAnswer.Read next) where
   pub read : Made (opening s) settled (record { terms = r .terms; state = r .state }) (drop next s)
@@ -61,12 +67,12 @@ module _ (s : List ℕ) (r : Opened) (says : openedSays s r ≡ settledOpening s
   pub read-ledger : newLedger (r .terms) (r .state) ≡ openedLedger (read .value)
   read-ledger = due-ledger (r .terms) (r .state) (read .value) (read .made)
 
-  pub newly-opened : Bytes s → (l : Ledger) → l ≡ newLedger (r .terms) (r .state) → NewlyOpened l
-  newly-opened b l el = record {
-    opening = read .value;
-    inRange = opening-exact .only s b (omega arith) (read .value) (drop next s) (sym (read .judged)) .1;
-    made = el ∙ read-ledger;
-  }
+  -- an opening piece with the same records makes the same ledger
+  pub newly-opened : Bytes s → (l : Ledger) → l ≡ newLedger (r .terms) (r .state) → HandedBack l
+  newly-opened b l el =
+      let o = read .value in
+      let x = opening-exact .only s b (omega arith) o (drop next s) (sym (read .judged)) in
+      rw (el, read-ledger, ← opened-again o (x .1)) (opened (openingBytes o) (bytes-before (openingBytes o) (drop next s) (rw (x .2) at b)))
 
 -- what the calls answer and hand back
 pub refused-handed : (r : Step) (n : ℕ) (j : Step) → r ≡ refusedOpening n → refusedOpening n ≡ j → (r ≡ j) × HandedBack (r .ledger)

@@ -7,8 +7,9 @@ use reckoning::StepAnswer;
 ghost use mathlib.Core.Path.{_≡_};
 ghost use Prim.Native.Nat.{_≤_, _<_};
 ghost use lib.ListN.{length, drop};
+ghost use Rattle.reckoning.specs.Step.{stepInside};
 ghost use Rattle.reckoner.specs.Ledger.{newLedger, firstYear};
-ghost use Rattle.reckoner.specs.Parts.{InUse, Closable, givenSays, givenInside, giveYears};
+ghost use Rattle.reckoner.specs.Parts.{givenSays, giveYears};
 ghost use Rattle.reckoner.specs.Calls.{refusedOpening, openCall, yearCall, closeCall, closeSays, closedBuffer, dossierCall, HandedBack, reckonNumber, reckonBuffer};
 
 // A ledger: the years given, what its opening settled, the state that years change, and the figures of the years given.
@@ -58,22 +59,19 @@ fn refused_opening(n: u8) -> Step
 
 // The report of a ledger, written where the buffer is long enough: 0, or 10 where it is not.
 fn write_ledger(ledger: Ledger, result: &mut [u8]) -> u8
-    requires { ⌜ Closable ledger ⌝ }
+    requires { ⌜ HandedBack ledger ⌝ }
     ensures { λ r. ⌜ r ≡ closeSays ledger (length (now (result .entry))) .number ⌝ }
     ensures { λ r. ⌜ now (result .exit) ≡ closedBuffer ledger (now (result .entry)) ⌝ }
 {
-    let given = ledger.given;
-    if result.len() < 64 * (given as usize) + 32 {
+    let k = ledger.given;
+    if result.len() < 64 * (k as usize) + 32 {
         return 10;
     }
     let figures = ledger.figures;
     let state = ledger.state;
-    let total = state.total;
-    let project = state.project;
-    let balance = project.balance;
-    let belt = state.belt;
-    let belt_balance = belt.balance;
-    report::write_report(figures, given, total, balance, belt_balance, result);
+    let balance = state.project.balance;
+    let belt = state.belt.balance;
+    report::write_report(figures, k, state.total, balance, belt, result);
     0
 }
 
@@ -85,9 +83,9 @@ struct Given {
 
 // Gives a ledger the next years of the bytes from a place on, count of them, one after the other.
 fn give_years(s: &[u8], from: usize, mut ledger: Ledger, count: u64) -> Given
-    requires { ⌜ (from ≤ length (now s)) × InUse ledger ⌝ }
+    requires { ⌜ (from ≤ length (now s)) × HandedBack ledger ⌝ }
     ensures { λ r. ⌜ givenSays (now (s .entry)) r ≡ giveYears count ledger (drop from (now (s .entry))) ⌝ }
-    ensures { λ r. ⌜ givenInside (now (s .entry)) r ⌝ }
+    ensures { λ r. ⌜ stepInside (now (s .entry)) (r .answer) ⌝ }
 {
     let terms = ledger.terms;
     let start = terms.start;

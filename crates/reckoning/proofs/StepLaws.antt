@@ -17,9 +17,14 @@ use Rattle.figures.specs.Reckoning.{regionReference, tableEmissions, yearFigure
 use Rattle.dossier.specs.Reader.{Judged, refused, accepted, after, _>>=_, give}
 use Rattle.dossier.specs.Judging.{year}
 use Rattle.years.specs.Answers.{summary, summarizedYear}
-use Rattle.reckoning.specs.Step.{yearAdvanced, summaryFigures, summaryAdvanced, steppedYear}
+use Rattle.reckoning.specs.declared.Advanced.{Advanced}
+use Rattle.reckoning.specs.Step.{summaryFigures, summaryAdvanced, steppedYear}
 
 -- ---- by the tables of the terms, a step is the year's own reckoning
+-- what a year makes
+unfoldable pub yearAdvanced : Terms → Year → State → Advanced
+yearAdvanced t y state = record { state = afterYear t y state; figures = yearFigures t y (state .project) (state .belt) }
+
 carbon-same : (f g : ℕ → ℕ → ℕ) (region : Region) (matrix : List ℕ) → ((i j : ℕ) → i < classes → j < classes → f i j ≡ g i j)
     → projectedCarbon f (region .areas) matrix ≡ projectedCarbon g (region .areas) matrix
 unfolding projectedCarbon

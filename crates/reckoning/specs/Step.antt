@@ -1,7 +1,6 @@
 -- One year's reckoning over the bytes, from a year's summary and by tables of factors.
 -- Serves contracts of inner functions and proofs; nothing here has to be believed. Assumes nothing.
 use Prim.Native.Nat.{ℕ, _≤_, _<_}
-use mathlib.Core.Path.{_≡_}
 use mathlib.Core.List.{List}
 use lib.Signed.{mag}
 use lib.ListN.{length, drop}
@@ -9,18 +8,16 @@ use Rattle.classes.specs.Ranges.{greatestTotal}
 use Rattle.projection.specs.Projection.{projectedCarbon}
 use Rattle.projection.specs.Ranges.{SmallRegion}
 use Rattle.figures.specs.declared.Figures.{Figures}
-use Rattle.figures.specs.declared.Terms.{Terms}
 use Rattle.figures.specs.declared.State.{State}
-use Rattle.figures.specs.Figures.{noFigures}
 use Rattle.figures.specs.Carbon.{carbonFigures}
-use Rattle.figures.specs.Year.{Year}
-use Rattle.figures.specs.Reckoning.{yearFigures, afterFigures, afterYear}
+use Rattle.figures.specs.Reckoning.{afterFigures}
 use Rattle.dossier.specs.Reader.{Judged, refused, accepted, Reader, _>>=_, give}
 use Rattle.years.specs.Answers.{Summary, summarizedYear}
 use Rattle.reckoning.specs.declared.Advanced.{Advanced}
 use Rattle.reckoning.specs.declared.StepAnswer.{StepAnswer}
 use Rattle.reckoning.specs.declared.Stepped.{Stepped}
 
+-- a year's figures, and what it makes, from its summary
 unfoldable pub summaryFigures : (ℕ → ℕ → ℕ) → List ℕ → Summary → State → Figures
 summaryFigures factor matrix m state =
     carbonFigures (record { projected = record { 0 = projectedCarbon factor (state .project .areas) matrix }; monitored = m .project })
@@ -31,10 +28,6 @@ summaryAdvanced factor matrix m state = record {
   state = afterFigures matrix (summaryFigures factor matrix m state) state;
   figures = summaryFigures factor matrix m state;
 }
-
--- the same from the year itself
-unfoldable pub yearAdvanced : Terms → Year → State → Advanced
-yearAdvanced t y state = record { state = afterYear t y state; figures = yearFigures t y (state .project) (state .belt) }
 
 -- the year that is due at the bytes' start, reckoned
 unfoldable pub steppedYear : (factor counted : ℕ → ℕ → ℕ) → List ℕ → (start beltstart : ℕ) → State → Reader Advanced
@@ -50,13 +43,10 @@ stepJudged s r (StepAnswer.Refused n) = refused n
 abbrev pub stepSays : List ℕ → Stepped → Judged Advanced
 stepSays s r = stepJudged s r (r .answer)
 
--- read: the next record begins inside; refused: the state as it was, and no figures
-abbrev pub stepFacts : List ℕ → State → Advanced → StepAnswer → Type 0
-stepFacts s state advanced (StepAnswer.Next next) = next ≤ length s
-stepFacts s state advanced (StepAnswer.Refused n) = advanced ≡ record { state = state; figures = noFigures }
-
-abbrev pub stepInside : List ℕ → State → Stepped → Type 0
-stepInside s state r = stepFacts s state (r .advanced) (r .answer)
+-- read: the next record begins inside
+abbrev pub stepInside : List ℕ → StepAnswer → Type 0
+stepInside s (StepAnswer.Next next) = next ≤ length s
+stepInside s (StepAnswer.Refused n) = Unit {0}
 
 -- ranges in which every sum fits 64 bits, by the ladder of the crate classes
 pub record SmallState (state : State) : Type 0 where

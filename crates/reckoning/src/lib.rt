@@ -28,7 +28,7 @@ pub enum StepAnswer {
     Refused(u8),
 }
 
-// A step's answer; where it is a refusal, the state as it was and no figures stand beside it.
+// A step's answer, and what the year makes where it was read.
 pub struct Stepped {
     pub answer: StepAnswer,
     pub advanced: Advanced,
@@ -99,7 +99,7 @@ pub fn step(
     requires { ⌜ FactorsFit (now factors) ⌝ }
     requires { ⌜ FactorsFit (now counted) ⌝ }
     ensures { λ r. ⌜ stepSays (now (s .entry)) r ≡ steppedYear (entry (now (factors .entry))) (entry (now (counted .entry))) (now (matrix .entry)) (start .0) (belt .0) state (drop at (now (s .entry))) ⌝ }
-    ensures { λ r. ⌜ stepInside (now (s .entry)) state r ⌝ }
+    ensures { λ r. ⌜ stepInside (now (s .entry)) (r .answer) ⌝ }
 {
     match years::read_year(s, at, state.year, state.left, start, belt, counted) {
         YearAnswer::Refused(n) => Stepped {

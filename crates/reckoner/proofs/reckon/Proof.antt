@@ -1,7 +1,6 @@
 -- `reckoner::reckon` meets its contract: the dossier's ledger is made, then closed.
 -- Assumes nothing.
 use borrow.Author.Needs.{needs}
-use Rattle.reckoner.proofs.Invariant.{handed-kept, closable}
 use Rattle.reckoner.proofs.CloseLaws.{reckon-no, reckon-yes}
 use Rattle.reckoner.proofs.reckon.Statement.{statement}
 use Rattle.reckoner.proofs.reckon.Tie as tie
@@ -16,7 +15,7 @@ enum-told : tie.Need-enum-told
 enum-told c = search needs
 
 write-ledger-requires : tie.Need-write-ledger-requires
-write-ledger-requires c κs = closable _ (handed-kept (c .before .before .before .before .of-dossier .ensures .1))
+write-ledger-requires c κs = c .before .before .before .before .of-dossier .ensures .1
 
 returns : tie.Need-returns
 returns c =

@@ -25,18 +25,18 @@ advance-requires : tie.Need-advance-requires
 advance-requires c κs =
     let at-read = c .before .before .before in
     let at-start = at-read .before .before in
-    let pre = at-start .pre in
+    let (_, (small, (rows, (fit, _)))) = at-start .pre in
     let a = at-start .args in
     let (_, ((_, project, belt, activity), (some, allowed))) =
     told (yearSays (a .s .now)) (λ r. tablesInside (a .s .now) r × yearFits (a .state .left) r) (c .before .days .given .1) (at-read .read-year .ensures) in
-    (pre .1 .0, (pre .1 .1 .0, (pre .1 .1 .1 .0, (project, belt, activity, some, allowed))))
+    (small, (rows, (fit, (project, belt, activity, some, allowed))))
 
 returns : tie.Need-returns
 unfolding steppedYear
 returns c =
     let at-refused = c .before .before in
     let at-read = at-refused .before .before in
-    (bind-no _ _ _ _ (rw (at-refused .n .given .1) at (at-read .read-year .ensures .0)), rw (c .no-figures .ensures))
+    (bind-no _ _ _ _ (rw (at-refused .n .given .1) at (at-read .read-year .ensures .0)), tt)
 
 returns-2 : tie.Need-returns-2
 unfolding steppedYear give

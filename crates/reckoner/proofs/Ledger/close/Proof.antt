@@ -1,13 +1,12 @@
 -- `reckoner::Ledger::close` meets its contract: the ledger is written, or refused with the buffer's number.
 -- Assumes nothing.
 use borrow.Author.Needs.{needs}
-use Rattle.reckoner.proofs.Invariant.{handed-kept, closable}
 use Rattle.reckoner.proofs.CloseLaws.{close-no, close-yes}
 use Rattle.reckoner.proofs.Ledger.close.Statement.{statement}
 use Rattle.reckoner.proofs.Ledger.close.Tie as tie
 
 write-ledger-requires : tie.Need-write-ledger-requires
-write-ledger-requires c κs = closable _ (handed-kept (c .before .before .pre))
+write-ledger-requires c κs = c .before .before .pre
 
 same-length : tie.Need-same-length
 same-length c = search needs

@@ -5,7 +5,6 @@ use lib.ListN.{drop}
 use borrow.Author.Needs.{needs}
 use Rattle.wire.specs.Bytes.{Bytes}
 use Rattle.reckoner.specs.declared.Step.{Step}
-use Rattle.reckoner.specs.Parts.{newly}
 use Rattle.reckoner.specs.Calls.{dossierCall}
 use Rattle.reckoner.proofs.OpenLaws.{inside, refused-handed, newly-opened}
 use Rattle.reckoner.proofs.DossierLaws.{dossier-no, dossier-is, dossier-handed, yearsCall, years-no, years-fault, years-yes}
@@ -53,7 +52,7 @@ give-years-requires c κs =
     let read = at-answer c .answer2 .given .1 in
     let opening = at-opening (at-answer c) in
     let (says, within) = opening .read-opening .ensures in
-    (inside _ _ says _ read within, newly (newly-opened _ _ says _ read (lent opening) _ (c .new-ledger .ensures)))
+    (inside _ _ says _ read within, newly-opened _ _ says _ read (lent opening) _ (c .new-ledger .ensures))
 
 enum-known-answer-3 : tie.Need-enum-known-answer-3
 enum-known-answer-3 c = search needs

@@ -3,7 +3,6 @@
 use native.Mathlib.Omega.{arith}
 use borrow.Author.Needs.{needs}
 use Rattle.wire.specs.Bytes.{Bytes}
-use Rattle.reckoner.specs.Parts.{handed}
 use Rattle.reckoner.proofs.YearLaws.{year-no, year-fault, year-yes, year-handed}
 use Rattle.reckoner.proofs.Ledger.year.Statement.{statement}
 use Rattle.reckoner.proofs.Ledger.year.Tie as tie
@@ -16,7 +15,7 @@ lent : (c : tie.After-give-years) → Bytes (at-start c .args .piece .now)
 lent c k = c .before .shared-slice-known .given k .fits
 
 give-years-requires : tie.Need-give-years-requires
-give-years-requires c κs = (omega arith, handed (c .before .pre))
+give-years-requires c κs = (omega arith, c .before .pre)
 
 enum-known-answer : tie.Need-enum-known-answer
 enum-known-answer c = search needs
