@@ -29,7 +29,7 @@ pub enum RunAnswer {
     Refused(u8),
 }
 
-// FU or LI, by its mark m, from its fields on: both have a material from 1 to 3 and grams up to 10^12.
+// FU or LI, by its mark m, from its fields on: both have a kind or material from 1 to 3 and grams up to 10^12.
 fn read_amount(s: &[u8], at: usize, m: u64) -> ActivityAnswer
     requires { ⌜ at ≤ length (now s) ⌝ }
     ensures { λ r. ⌜ activitySays (now (s .entry)) r ≡ fieldsOf (cond (eqb m markFU) fuel lime) (drop at (now (s .entry))) ⌝ }
@@ -138,7 +138,7 @@ fn read_nitrogen(s: &[u8], at: usize) -> ActivityAnswer
 }
 
 // Whether m is the mark of an activity record.
-fn due(m: u64) -> bool
+fn is_activity(m: u64) -> bool
     ensures { λ r. ⌜ r ≡ activityMark m ⌝ }
 {
     if m == FU {
@@ -184,7 +184,7 @@ pub fn read_run(part: &[u8]) -> RunAnswer
     let mut count: u64 = 0;
     while part.len() - at >= 2 {
         let m = wire::field16(part, at);
-        if !due(m) {
+        if !is_activity(m) {
             return RunAnswer::Read { grams, next: at };
         }
         if count == 60 {

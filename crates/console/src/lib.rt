@@ -10,7 +10,7 @@ ghost use Rattle.console.specs.Filled.{filled};
 // What a buffer is filled with before a call is lent it.
 pub const FILLING: u8 = 165;
 
-// The next byte on standard input, or 0 where it has ended.
+// The next byte on standard input, or 0 where it has ended. What an input brings is free: there is nothing to promise of it.
 pub fn read_byte() -> u8 {
     let mut byte = [0u8; 1];
     io::read_full(STDIN_FILENO, &mut byte);

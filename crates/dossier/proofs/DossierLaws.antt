@@ -101,7 +101,7 @@ years-reads k due r before l n p =
     ∙ unfold years give _>>_ in rw end-yes)
 
 -- more was read after before, then EN, and nothing follows
-record Given (k : ℕ) (due : Due) (before : List Year) (s : List ℕ) (all : List Year) (t : List ℕ) : Type 0 where
+record ReadYears (k : ℕ) (due : Due) (before : List Year) (s : List ℕ) (all : List Year) (t : List ℕ) : Type 0 where
   more : List Year
   whole : all ≡ before ++ more
   count : length more ≡ k
@@ -109,14 +109,14 @@ record Given (k : ℕ) (due : Due) (before : List Year) (s : List ℕ) (all : Li
   over : t ≡ []
   encoded : s ≡ yearsBytes more ++ t
 
-years-none : (due : Due) (before : List Year) (s : List ℕ) (all : List Year) (u t : List ℕ) → s ≡ bytes 2 EN → u ≡ [] → accepted before u ≡ accepted all t → Given 0 due before s all t
+years-none : (due : Due) (before : List Year) (s : List ℕ) (all : List Year) (u t : List ℕ) → s ≡ bytes 2 EN → u ≡ [] → accepted before u ≡ accepted all t → ReadYears 0 due before s all t
 unfolding yearsBytes joined
 years-none due before s all u t e n q =
     let z : t ≡ [] = sym (was q .1) ∙ n in
     record { more = []; whole = sym (was q .0) ∙ sym (append-nil before); count = refl; each = tt; over = z; encoded = e ∙ rw (z, append-nil) }
 
 years-more : (k : ℕ) (due : Due) (before : List Year) (s : List ℕ) (y : Year) (u : List ℕ) (all : List Year) (t : List ℕ) → YearInRange due y → s ≡ yearBytes y ++ u
-    → Given k (next y due) (before ++ (y ∷ [])) u all t → Given (suc k) due before s all t
+    → ReadYears k (next y due) (before ++ (y ∷ [])) u all t → ReadYears (suc k) due before s all t
 years-more k due before s y u all t p e r = record {
   more = y ∷ r .more;
   whole = r .whole ∙ append-assoc before (y ∷ []) (r .more);
@@ -127,7 +127,7 @@ years-more k due before s y u all t p e r = record {
 }
 
 years-only : (k : ℕ) (due : Due) → Room k due → (before : List Year) (s : List ℕ) → Bytes s → (all : List Year) (t : List ℕ) → years k due before s ≡ accepted all t
-    → Given k due before s all t
+    → ReadYears k due before s all t
 unfolding years give _>>=_ _>>_
 years-only zero due r before s bs all t q =
     let f = step (end s) (λ _. give before) q in

@@ -21,9 +21,9 @@ use Rattle.reckoning.specs.declared.StepAnswer.{StepAnswer}
 use Rattle.reckoner.specs.declared.Ledger.{Ledger}
 use Rattle.reckoner.specs.declared.Answer.{Answer}
 use Rattle.reckoner.specs.declared.Step.{Step}
-use Rattle.reckoner.specs.declared.Given.{Given}
+use Rattle.reckoner.specs.declared.Reckoned.{Reckoned}
 use Rattle.reckoner.specs.Ledger.{newLedger, openedLedger, dueOf, givenYear, givenYears, ledgerOf}
-use Rattle.reckoner.specs.Parts.{giveYears, givenSays}
+use Rattle.reckoner.specs.Parts.{giveYears, reckonedSays}
 use Rattle.reckoner.specs.Calls.{refusedOpening, dossierJudged, dossierCall, HandedBack, whole}
 use Rattle.reckoner.proofs.OpenLaws.{read, read-ledger}
 
@@ -81,8 +81,8 @@ yearsJudged l (accepted ys rest) = record { ledger = givenYears ys l; answer = A
 unfoldable pub yearsCall : Ledger → List ℕ → Step
 yearsCall l s = yearsJudged l (years (l .state .left) (dueOf l) [] s)
 
-module _ (terms : Terms) (state : State) (l : Ledger) (el : l ≡ newLedger terms state) (s u : List ℕ) (r : Given) (says : givenSays s r ≡ giveYears (state .left) l u) where
-  all-left : givenSays s r ≡ giveYears (l .state .left) l u
+module _ (terms : Terms) (state : State) (l : Ledger) (el : l ≡ newLedger terms state) (s u : List ℕ) (r : Reckoned) (says : reckonedSays s r ≡ giveYears (state .left) l u) where
+  all-left : reckonedSays s r ≡ giveYears (l .state .left) l u
   unfolding newLedger
   all-left = let z : state .left ≡ l .state .left = rw el in says ∙ ap (λ (k : ℕ). giveYears k l u) z
 

@@ -14,12 +14,12 @@ use Rattle.reckoning.specs.declared.StepAnswer.{StepAnswer}
 use Rattle.reckoner.specs.declared.Ledger.{Ledger}
 use Rattle.reckoner.specs.declared.Answer.{Answer}
 use Rattle.reckoner.specs.declared.Step.{Step}
-use Rattle.reckoner.specs.declared.Given.{Given}
+use Rattle.reckoner.specs.declared.Reckoned.{Reckoned}
 use Rattle.reckoner.specs.Ledger.{dueOf, givenYear}
-use Rattle.reckoner.specs.Parts.{giveYears, givenSays}
+use Rattle.reckoner.specs.Parts.{giveYears, reckonedSays}
 use Rattle.reckoner.specs.Calls.{yearJudged, yearCall, HandedBack, given}
 
-module _ (l : Ledger) (s : List ℕ) (r : Given) (says : givenSays s r ≡ giveYears 1 l s) where
+module _ (l : Ledger) (s : List ℕ) (r : Reckoned) (says : reckonedSays s r ≡ giveYears 1 l s) where
   pub year-no : (n : ℕ) → r .answer ≡ StepAnswer.Refused n → record { ledger = l; answer = Answer.Refused n } ≡ yearCall l s
   unfolding yearCall yearPiece giveYears _>>=_
   year-no n e = ap (yearJudged l) (bind-no (year (dueOf l)) _ s n (made-no (year (dueOf l) s) (λ y. givenYear y l) n (rw e at says)))

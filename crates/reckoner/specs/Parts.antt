@@ -7,7 +7,7 @@ use Rattle.dossier.specs.Reader.{Judged, refused, accepted, Reader, _>>=_, give
 use Rattle.dossier.specs.Judging.{year}
 use Rattle.reckoning.specs.declared.StepAnswer.{StepAnswer}
 use Rattle.reckoner.specs.declared.Ledger.{Ledger}
-use Rattle.reckoner.specs.declared.Given.{Given}
+use Rattle.reckoner.specs.declared.Reckoned.{Reckoned}
 use Rattle.reckoner.specs.Ledger.{dueOf, givenYear}
 
 -- ---- years given to a ledger one after the other: the next k of the bytes
@@ -17,9 +17,9 @@ giveYears (suc k) l = do
   y ← year (dueOf l)
   giveYears k (givenYear y l)
 
-abbrev pub givenJudged : List ℕ → Ledger → StepAnswer → Judged Ledger
-givenJudged s l (StepAnswer.Next next) = accepted l (drop next s)
-givenJudged s l (StepAnswer.Refused n) = refused n
+abbrev pub reckonedJudged : List ℕ → Ledger → StepAnswer → Judged Ledger
+reckonedJudged s l (StepAnswer.Next next) = accepted l (drop next s)
+reckonedJudged s l (StepAnswer.Refused n) = refused n
 
-abbrev pub givenSays : List ℕ → Given → Judged Ledger
-givenSays s r = givenJudged s (r .ledger) (r .answer)
+abbrev pub reckonedSays : List ℕ → Reckoned → Judged Ledger
+reckonedSays s r = reckonedJudged s (r .ledger) (r .answer)

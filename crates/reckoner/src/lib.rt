@@ -9,7 +9,7 @@ ghost use Prim.Native.Nat.{_≤_, _<_};
 ghost use lib.ListN.{length, drop};
 ghost use Rattle.reckoning.specs.Step.{stepInside};
 ghost use Rattle.reckoner.specs.Ledger.{newLedger, firstYear};
-ghost use Rattle.reckoner.specs.Parts.{givenSays, giveYears};
+ghost use Rattle.reckoner.specs.Parts.{reckonedSays, giveYears};
 ghost use Rattle.reckoner.specs.Calls.{refusedOpening, openCall, yearCall, closeCall, closeSays, closedBuffer, dossierCall, HandedBack, reckonNumber, reckonBuffer};
 
 // A ledger: the years given, what its opening settled, the state that years change, and the figures of the years given.
@@ -76,15 +76,15 @@ fn write_ledger(ledger: Ledger, result: &mut [u8]) -> u8
 }
 
 // A ledger after the years that it was given, and the place after them; or the number of the first that was refused.
-struct Given {
+struct Reckoned {
     ledger: Ledger,
     answer: StepAnswer,
 }
 
 // Gives a ledger the next years of the bytes from a place on, count of them, one after the other.
-fn give_years(s: &[u8], from: usize, mut ledger: Ledger, count: u64) -> Given
+fn give_years(s: &[u8], from: usize, mut ledger: Ledger, count: u64) -> Reckoned
     requires { ⌜ (from ≤ length (now s)) × HandedBack ledger ⌝ }
-    ensures { λ r. ⌜ givenSays (now (s .entry)) r ≡ giveYears count ledger (drop from (now (s .entry))) ⌝ }
+    ensures { λ r. ⌜ reckonedSays (now (s .entry)) r ≡ giveYears count ledger (drop from (now (s .entry))) ⌝ }
     ensures { λ r. ⌜ stepInside (now (s .entry)) (r .answer) ⌝ }
 {
     let terms = ledger.terms;
@@ -102,7 +102,7 @@ fn give_years(s: &[u8], from: usize, mut ledger: Ledger, count: u64) -> Given
         let advanced = stepped.advanced;
         match answer {
             StepAnswer::Refused(n) => {
-                return Given {
+                return Reckoned {
                     ledger,
                     answer: StepAnswer::Refused(n),
                 };
@@ -119,7 +119,7 @@ fn give_years(s: &[u8], from: usize, mut ledger: Ledger, count: u64) -> Given
         }
         k += 1;
     }
-    Given {
+    Reckoned {
         ledger,
         answer: StepAnswer::Next(at),
     }
@@ -150,9 +150,9 @@ impl Ledger {
         ensures { λ r. ⌜ r ≡ yearCall self (now (piece .entry)) ⌝ }
         ensures { λ r. ⌜ HandedBack (r .ledger) ⌝ }
     {
-        let given = give_years(piece, 0, self, 1);
-        let answer = given.answer;
-        let ledger = given.ledger;
+        let reckoned = give_years(piece, 0, self, 1);
+        let answer = reckoned.answer;
+        let ledger = reckoned.ledger;
         match answer {
             StepAnswer::Refused(n) => Step {
                 ledger: self,
@@ -222,9 +222,9 @@ impl Ledger {
         match answer {
             OpeningAnswer::Refused(n) => refused_opening(n),
             OpeningAnswer::Read(next) => {
-                let given = give_years(dossier, next, new_ledger(terms, state), state.left);
-                let answer = given.answer;
-                let ledger = given.ledger;
+                let reckoned = give_years(dossier, next, new_ledger(terms, state), state.left);
+                let answer = reckoned.answer;
+                let ledger = reckoned.ledger;
                 match answer {
                     StepAnswer::Refused(n) => refused_opening(n),
                     StepAnswer::Next(next) => {

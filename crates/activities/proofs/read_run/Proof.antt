@@ -22,8 +22,8 @@ sub-loop c = search needs
 field16-requires : tie.Need-field16-requires Inv-loop μ-loop
 field16-requires c κs = search needs
 
-due-requires : tie.Need-due-requires Inv-loop μ-loop
-due-requires c κs = search needs
+is-activity-requires : tie.Need-is-activity-requires Inv-loop μ-loop
+is-activity-requires c κs = search needs
 
 returns : tie.Need-returns Inv-loop μ-loop
 returns c = (search (needs, running), (search needs, search (needs, running)))
@@ -73,7 +73,7 @@ read-run-spec =
     loop-holds
     sub-loop
     field16-requires
-    due-requires
+    is-activity-requires
     returns
     returns-2
     add-read-activity

@@ -46,8 +46,9 @@ step-requires c κs =
     let at-loop = c .before .before .before .before .before .before in
     let t = at-tables at-loop in
     let f = at-loop .loop .inv in
-    let k = rw (f .terms) at (f .kept) in
-    ((f .inside, k .project .small, k .belt .small), (state-kept _ (f .kept), (k .rows, tables-fit (tables (at-start t .args .t3 .terms) (t .fill-factors .ensures)) (k .stocks))))
+    let kept = rw (f .terms) at (f .kept) in
+    let fit = tables-fit (tables (at-start t .args .t3 .terms) (t .fill-factors .ensures)) (kept .stocks) in
+    ((f .inside, kept .project .small, kept .belt .small), (state-kept _ (f .kept), (kept .rows, fit)))
 
 enum-known-answer : tie.Need-enum-known-answer Inv-loop μ-loop
 enum-known-answer c = search needs

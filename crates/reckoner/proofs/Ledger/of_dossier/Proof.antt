@@ -25,12 +25,12 @@ lent : (c : tie.After-read-opening) → Bytes (at-start c .args .dossier .now)
 lent c k = c .before .shared-slice-known .given k .fits
 
 -- what becomes of the years is what becomes of the dossier
-is : (c : tie.After-new-ledger) (r : Step)
+as-dossier : (c : tie.After-new-ledger) (r : Step)
     → r ≡ yearsCall (c .new-ledger .result) (drop (at-answer c .answer2 .given .0 .0) (at-start (at-opening (at-answer c)) .args .dossier .now))
     → r ≡ dossierCall (at-start (at-opening (at-answer c)) .args .dossier .now)
-is c r e =
-    let read = at-answer c in
-    dossier-is _ _ (at-opening read .read-opening .ensures .0) _ (read .answer2 .given .1) _ (c .new-ledger .ensures) r e
+as-dossier c r e =
+    let at-read = at-answer c in
+    dossier-is _ _ (at-opening at-read .read-opening .ensures .0) _ (at-read .answer2 .given .1) _ (c .new-ledger .ensures) r e
 
 read-opening-requires : tie.Need-read-opening-requires
 read-opening-requires c κs = search needs
@@ -65,39 +65,39 @@ enum-known-answer-4 c = search needs
 
 read-end-requires : tie.Need-read-end-requires
 read-end-requires c κs =
-    let next = c .before in
-    rw (next .answer4 .given .1) at (next .before .before .before .give-years .ensures .1)
+    let at-next = c .before in
+    rw (at-next .answer4 .given .1) at (at-next .before .before .before .give-years .ensures .1)
 
 refused-opening-requires-3 : tie.Need-refused-opening-requires-3
 refused-opening-requires-3 c κs = search needs
 
 returns : tie.Need-returns
 returns c =
-    let end = c .before .before in
-    let next = end .before .before in
-    let given = next .before .before .before in
-    let fault = years-fault _ _ _ (given .before .new-ledger .ensures) _ _ _ (given .give-years .ensures .0) _ (next .answer4 .given .1) _ (end .read-end .ensures) (c .before .if1 .taken) in
-    refused-handed _ _ _ (c .refused-opening3 .ensures) (is (given .before) _ fault)
+    let at-end = c .before .before in
+    let at-next = at-end .before .before in
+    let at-years = at-next .before .before .before in
+    let fault = years-fault _ _ _ (at-years .before .new-ledger .ensures) _ _ _ (at-years .give-years .ensures .0) _ (at-next .answer4 .given .1) _ (at-end .read-end .ensures) (c .before .if1 .taken) in
+    refused-handed _ _ _ (c .refused-opening3 .ensures) (as-dossier (at-years .before) _ fault)
 
 returns-2 : tie.Need-returns-2
 returns-2 c =
-    let no = c .before .before in
-    let opening = no .before .before .before .before in
-    refused-handed _ _ _ (c .refused-opening .ensures) (dossier-no _ _ (opening .read-opening .ensures .0) _ (no .answer .given .1))
+    let at-no = c .before .before in
+    let opening = at-no .before .before .before .before in
+    refused-handed _ _ _ (c .refused-opening .ensures) (dossier-no _ _ (opening .read-opening .ensures .0) _ (at-no .answer .given .1))
 
 returns-3 : tie.Need-returns-3
 returns-3 c =
-    let no = c .before .before in
-    let given = no .before .before .before in
-    refused-handed _ _ _ (c .refused-opening2 .ensures) (is (given .before) _ (years-no _ _ _ (given .before .new-ledger .ensures) _ _ _ (given .give-years .ensures .0) _ (no .answer3 .given .1)))
+    let at-no = c .before .before in
+    let at-years = at-no .before .before .before in
+    refused-handed _ _ _ (c .refused-opening2 .ensures) (as-dossier (at-years .before) _ (years-no _ _ _ (at-years .before .new-ledger .ensures) _ _ _ (at-years .give-years .ensures .0) _ (at-no .answer3 .given .1)))
 
 returns-4 : tie.Need-returns-4
 returns-4 c =
-    let end = c .before in
-    let next = end .before .before in
-    let given = next .before .before .before in
-    let taken = years-yes _ _ _ (given .before .new-ledger .ensures) _ _ _ (given .give-years .ensures .0) _ (next .answer4 .given .1) _ (end .read-end .ensures) (c .if1 .left) in
-    dossier-handed _ (lent (at-opening (at-answer (given .before)))) _ (is (given .before) _ taken)
+    let at-end = c .before in
+    let at-next = at-end .before .before in
+    let at-years = at-next .before .before .before in
+    let taken = years-yes _ _ _ (at-years .before .new-ledger .ensures) _ _ _ (at-years .give-years .ensures .0) _ (at-next .answer4 .given .1) _ (at-end .read-end .ensures) (c .if1 .left) in
+    dossier-handed _ (lent (at-opening (at-answer (at-years .before)))) _ (as-dossier (at-years .before) _ taken)
 
 pub of-dossier-spec : {M : Type 1} → statement M
 of-dossier-spec =

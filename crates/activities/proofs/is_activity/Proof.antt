@@ -1,9 +1,9 @@
--- `activities::due` meets its contract: it tests for the four marks of the definition.
+-- `activities::is_activity` meets its contract: it tests for the four marks of the definition.
 -- Assumes nothing.
 use Rattle.dossier.specs.JudgingRecords.{activityMark}
 use Rattle.activities.proofs.MarkLaws.{marking}
-use Rattle.activities.proofs.due.Statement.{statement}
-use Rattle.activities.proofs.due.Tie as tie
+use Rattle.activities.proofs.is_activity.Statement.{statement}
+use Rattle.activities.proofs.is_activity.Tie as tie
 
 returns : tie.Need-returns
 unfolding activityMark
@@ -21,5 +21,5 @@ returns-4 : tie.Need-returns-4
 unfolding activityMark
 returns-4 c = search marking
 
-pub due-spec : {M : Type 1} → statement M
-due-spec = tie.close (tie.spec returns returns-2 returns-3 returns-4)
+pub is-activity-spec : {M : Type 1} → statement M
+is-activity-spec = tie.close (tie.spec returns returns-2 returns-3 returns-4)
