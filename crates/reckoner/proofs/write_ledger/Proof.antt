@@ -8,6 +8,11 @@ use Rattle.reckoner.specs.Calls.{closeCall, closedBuffer}
 use Rattle.reckoner.proofs.write_ledger.Statement.{statement}
 use Rattle.reckoner.proofs.write_ledger.Tie as tie
 
+-- too short a buffer
+returns : tie.Need-returns
+unfolding closeCall closedBuffer
+returns c = let t = lt-ltb _ _ (c .if1 .taken) in (simp t, simp t)
+
 -- the places: the buffer long enough, from the report written; the start
 abbrev at-room : tie.After-belt → tie.Else1
 at-room c = c .before .before .before .before
@@ -20,10 +25,6 @@ mul-if1 c = let k = handed-kept (c .before .pre) in search needs
 
 add-if1 : tie.Need-add-if1
 add-if1 c = let k = handed-kept (c .before .pre) in search needs
-
-returns : tie.Need-returns
-unfolding closeCall closedBuffer
-returns c = let t = lt-ltb _ _ (c .if1 .taken) in (simp t, simp t)
 
 write-report-requires : tie.Need-write-report-requires
 write-report-requires c κs = let k = handed-kept (at-start (at-room (c .before)) .pre) in search needs
