@@ -1,5 +1,5 @@
 -- Document 01, "Classes and factors": the twelve land use classes in this order: E, SE, P, D, B, M, MR, FF, FR, TP, PP, NF.
--- A class is its place in the order, from 0.
+-- A class is its place in the order, from 0. Those that a definition or an example speaks of have a name here.
 -- To be believed. Assumes nothing.
 use Prim.Native.Nat.{ℕ, _-_}
 use mathlib.Core.Bool.{cond, _||_}
@@ -16,26 +16,8 @@ E = 0
 abbrev pub SE : ℕ
 SE = 1
 
-abbrev pub P : ℕ
-P = 2
-
-abbrev pub D : ℕ
-D = 3
-
-abbrev pub B : ℕ
-B = 4
-
-abbrev pub M : ℕ
-M = 5
-
 abbrev pub MR : ℕ
 MR = 6
-
-abbrev pub FF : ℕ
-FF = 7
-
-abbrev pub FR : ℕ
-FR = 8
 
 abbrev pub TP : ℕ
 TP = 9
