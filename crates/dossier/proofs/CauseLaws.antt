@@ -4,9 +4,9 @@ use Prim.Native.Nat.{ℕ, _<_}
 use mathlib.Core.Path.{_≡_, refl}
 use mathlib.Core.Bool.{Bool, true, false, cond}
 use mathlib.Core.Logic.{inl, inr}
-use mathlib.Core.List.{List, [], _∷_}
+use mathlib.Core.List.{List, [], _∷_, _++_}
 use lib.Dec.{T, eqb, eqb→eq, ltb, ltb→lt}
-use Rattle.dossier.specs.Causes.{causes, openingCauses, yearCauses, dossierCauses, _∈_, Cause}
+use Rattle.dossier.specs.Causes.{causes, openingCauses, yearCauses, _∈_}
 
 -- whether n is one of these
 abbrev pub member : ℕ → List ℕ → Bool
@@ -46,12 +46,15 @@ allPositive l = each (λ n. ltb 0 n) l
 pub positive : (l : List ℕ) → T (allPositive l) → (n : ℕ) → n ∈ l → 0 < n
 positive l t n h = ltb→lt 0 n (passes (λ n. ltb 0 n) l t n h)
 
--- ---- the lists of the calls are parts of the table, and a dossier's has those of its opening and of its years
+-- ---- the causes of a dossier: those of its opening and of its years, which are all of the table but the buffer's
+abbrev pub dossierCauses : List ℕ
+dossierCauses = openingCauses ++ yearCauses
+
 pub opening-part : (n : ℕ) → n ∈ openingCauses → n ∈ dossierCauses
 opening-part = part openingCauses dossierCauses tt
 
 pub year-part : (n : ℕ) → n ∈ yearCauses → n ∈ dossierCauses
 year-part = part yearCauses dossierCauses tt
 
-pub dossier-part : (n : ℕ) → n ∈ dossierCauses → Cause n
+pub dossier-part : (n : ℕ) → n ∈ dossierCauses → n ∈ causes
 dossier-part = part dossierCauses causes tt

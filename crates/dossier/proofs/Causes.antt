@@ -7,12 +7,12 @@ use mathlib.Core.List.{List}
 use lib.Dec.{ltb, eqb}
 use lib.ListN.{length, take, drop}
 use Rattle.wire.specs.Bytes.{number}
-use Rattle.dossier.specs.Causes.{bytesMissing, markNotDue, openingCauses, yearCauses, dossierCauses, _∈_}
+use Rattle.dossier.specs.Causes.{bytesMissing, markNotDue, openingCauses, yearCauses, _∈_}
 use Rattle.dossier.specs.Records.{Due}
 use Rattle.dossier.specs.Reader.{Judged, refused, accepted, Reader, after, _>>=_, _>>_, give, refuse, mark, stands, upon, present, field, fields, nothing, endOfPiece}
 use Rattle.dossier.specs.Judging.{dossier, openingPiece, yearPiece}
 use Rattle.dossier.proofs.ReaderLaws.{never}
-use Rattle.dossier.proofs.CauseLaws.{listed, opening-part, year-part}
+use Rattle.dossier.proofs.CauseLaws.{listed, dossierCauses, opening-part, year-part}
 use Rattle.dossier.proofs.Walk.{Closed, openings, a-year, some-years}
 
 -- what a reader refuses, it refuses for one of these causes

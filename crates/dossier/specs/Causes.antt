@@ -4,7 +4,7 @@
 use Prim.Native.Nat.{ℕ}
 use mathlib.Core.Path.{_≡_}
 use mathlib.Core.Logic.{_⊎_}
-use mathlib.Core.List.{List, [], _∷_, _++_}
+use mathlib.Core.List.{List, [], _∷_}
 
 -- "bytes end before or inside a mark still needed, or inside a record | 1"
 abbrev pub bytesMissing : ℕ
@@ -61,10 +61,6 @@ openingCauses = bytesMissing ∷ markNotDue ∷ headOutOfRange ∷ areaTotalWron
 abbrev pub yearCauses : List ℕ
 yearCauses = bytesMissing ∷ markNotDue ∷ yearWrong ∷ conversionTotalWrong ∷ activityOutOfRange ∷ tooManyActivities ∷ []
 
--- a dossier, by its opening, its years and EN: every cause but the buffer's
-abbrev pub dossierCauses : List ℕ
-dossierCauses = openingCauses ++ yearCauses
-
 -- a closing: the buffer's alone
 abbrev pub closingCauses : List ℕ
 closingCauses = bufferTooShort ∷ []
@@ -75,10 +71,6 @@ infix 4 _∈_
 abbrev pub _∈_ : ℕ → List ℕ → Type 0
 _∈_ n [] = ⊥
 _∈_ n (c ∷ rest) = (n ≡ c) ⊎ (n ∈ rest)
-
--- n is the number of a cause
-abbrev pub Cause : ℕ → Type 0
-Cause n = n ∈ causes
 
 -- what a call may answer that refuses for these causes alone: 0, or the number of one of them
 abbrev pub ZeroOr : List ℕ → ℕ → Type 0

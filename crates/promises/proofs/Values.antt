@@ -12,8 +12,7 @@ use Rattle.wire.specs.Bytes.{Bytes}
 use Rattle.dossier.specs.Records.{Dossier}
 use Rattle.dossier.specs.Reader.{Judged, refused, accepted}
 use Rattle.dossier.specs.Judging.{dossier}
-use Rattle.dossier.specs.Causes.{dossierCauses}
-use Rattle.dossier.proofs.CauseLaws.{positive}
+use Rattle.dossier.proofs.CauseLaws.{positive, dossierCauses}
 use Rattle.dossier.proofs.Causes.{dossier-causes}
 use Rattle.reckoner.specs.declared.Ledger.{Ledger}
 use Rattle.reckoner.specs.declared.Answer.{Answer}

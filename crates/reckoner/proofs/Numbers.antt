@@ -12,10 +12,10 @@ use Rattle.wire.specs.Bytes.{Bytes}
 use Rattle.figures.specs.Year.{Year}
 use Rattle.figures.specs.Reckoning.{afterFigures, afterYear}
 use Rattle.dossier.specs.Records.{stateOf, Dossier, DossierInRange, dossierBytes, Opening}
-use Rattle.dossier.specs.Causes.{bufferTooShort, causes, openingCauses, yearCauses, dossierCauses, closingCauses, _∈_, ZeroOr}
+use Rattle.dossier.specs.Causes.{bufferTooShort, causes, openingCauses, yearCauses, closingCauses, _∈_, ZeroOr}
 use Rattle.dossier.specs.Reader.{Judged, refused, accepted}
 use Rattle.dossier.specs.Judging.{dossier, openingPiece, yearPiece}
-use Rattle.dossier.proofs.CauseLaws.{listed, positive, dossier-part}
+use Rattle.dossier.proofs.CauseLaws.{listed, positive, dossierCauses, dossier-part}
 use Rattle.dossier.proofs.Causes.{dossier-causes, openingPiece-causes, yearPiece-causes}
 use Rattle.dossier.proofs.WellFormed.{dossier-accepted}
 use Rattle.dossier.proofs.FirstBytes.{first-bytes-settle}
