@@ -8,7 +8,6 @@ use Rattle.classes.specs.declared.AreaUnits.{AreaUnits}
 use Rattle.classes.specs.Classes.{classes}
 use Rattle.classes.specs.Matrix.{entry, million}
 use Rattle.projection.specs.declared.Region.{Region}
-use Rattle.projection.specs.declared.Projected.{Projected}
 
 -- the area of class i
 abbrev pub area : List AreaUnits → ℕ → ℕ
@@ -43,7 +42,3 @@ openedRegion areas = record { areas = areas; balance = record { 0 = 0 } }
 -- after a year: the areas that the next year would start from, and the balance grown by the area that rounding lost
 unfoldable pub projectedRegion : List ℕ → Region → Region
 projectedRegion matrix region = record { areas = nextAreas (region .areas) matrix; balance = record { 0 = region .balance .0 + lostArea (region .areas) matrix } }
-
--- the year of a region: what it is afterwards, and its projected carbon
-unfoldable pub projectedYear : (ℕ → ℕ → ℕ) → List ℕ → Region → Projected
-projectedYear factor matrix region = record { region = projectedRegion matrix region; carbon = record { 0 = projectedCarbon factor (region .areas) matrix } }

@@ -4,9 +4,9 @@ use classes::CarbonUnits;
 ghost use mathlib.Core.Path.{_≡_};
 ghost use Prim.Native.Nat.{_*_, _/_, _≤_, _<_};
 ghost use Rattle.classes.specs.Matrix.{entry, million};
-ghost use Rattle.projection.specs.Projection.{areaTotal, nextArea, projectedYear};
+ghost use Rattle.projection.specs.Projection.{areaTotal, nextArea};
 ghost use Rattle.projection.specs.Ranges.{SmallArea, SmallRegion, RowsWithin, FactorsFit};
-ghost use Rattle.projection.specs.Inflow.{inflowCarbon};
+ghost use Rattle.projection.specs.Inflow.{inflowCarbon, projectedYear};
 
 // The twelve areas of a region by class, and its balance: the area that rounding lost so far.
 pub struct Region {

@@ -9,7 +9,7 @@ use Rattle.arithmetic.specs.Fraction.{Fraction, whole, _+ᶠ_, _-ᶠ_, negᶠ, 
 use Rattle.classes.specs.Classes.{carbonStocks, deforestationProbabilities, emissionFactor}
 use Rattle.classes.specs.Matrix.{optionOne, optionOneMatrix}
 use Rattle.classes.specs.Calendar.{daysInYear}
-use Rattle.projection.specs.Projection.{projectedCarbon, nextArea, nextAreas, lostArea, openedRegion, projectedRegion, projectedYear}
+use Rattle.projection.specs.Projection.{projectedCarbon, nextArea, nextAreas, lostArea, openedRegion, projectedRegion}
 use Rattle.activity.specs.Activity.{numerator, denominator, activityGrams, activityEmissions}
 use Rattle.figures.specs.Figures.{referenceLevel, monitoredCarbon, countedFactor, stockChangeEmissions, displacedEmissions, reductionOf, creditedOf, tonnesOf, figuresOf}
 use Rattle.figures.specs.Reckoning.{regionReference, tableEmissions, yearFigures, afterFigures, afterYear}
@@ -38,7 +38,7 @@ unfolding examples caseA bufferA threeUnits
     opening run activities yearRecords yearLeft year end years dossier
     -- classes, projection, activity records, figures
     sum listed ceilDiv floorDiv carbonStocks deforestationProbabilities emissionFactor optionOne optionOneMatrix daysInYear
-    projectedCarbon nextArea nextAreas lostArea openedRegion projectedRegion projectedYear numerator denominator activityGrams activityEmissions
+    projectedCarbon nextArea nextAreas lostArea openedRegion projectedRegion numerator denominator activityGrams activityEmissions
     referenceLevel monitoredCarbon countedFactor stockChangeEmissions displacedEmissions reductionOf creditedOf tonnesOf figuresOf
     regionReference tableEmissions yearFigures afterFigures afterYear
     -- the ledger, its report and the bytes written

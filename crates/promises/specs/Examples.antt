@@ -9,7 +9,7 @@ use Rattle.classes.specs.Classes.{E, SE, MR, TP, NF, carbonStocks, emissionFact
 use Rattle.classes.specs.Matrix.{optionOneMatrix}
 use Rattle.classes.specs.Calendar.{daysInYear}
 use Rattle.projection.specs.declared.Region.{Region}
-use Rattle.projection.specs.Projection.{area, openedRegion, projectedYear}
+use Rattle.projection.specs.Projection.{area, openedRegion, projectedRegion}
 use Rattle.activity.specs.declared.Activity.the-variants.{Fuel, Nitrogen, Lime}
 use Rattle.activity.specs.Activity.{activityGrams}
 use Rattle.figures.specs.Figures.{creditedOf}
@@ -58,7 +58,7 @@ sheetA =
 
 -- E 3 units, Option 1, one year
 unfoldable pub threeUnits : Region
-threeUnits = projectedYear (emissionFactor carbonStocks) optionOneMatrix (openedRegion (units (only E 3))) .region
+threeUnits = projectedRegion optionOneMatrix (openedRegion (units (only E 3)))
 
 -- ---- the table: what the definitions give, and what document 01 states, each as a list of whole numbers
 pub record Example : Type 0 where

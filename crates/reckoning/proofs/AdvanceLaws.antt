@@ -15,7 +15,7 @@ use Rattle.classes.specs.Ranges.{greatestActivity, greatestFigure, greatestTota
 use Rattle.classes.proofs.RangeLaws.{plus-fits}
 use Rattle.projection.specs.declared.Region.{Region}
 use Rattle.projection.specs.declared.Projected.{Projected}
-use Rattle.projection.specs.Projection.{projectedYear}
+use Rattle.projection.specs.Inflow.{projectedYear}
 use Rattle.projection.specs.Ranges.{SmallRegion, RowsWithin, FactorsFit}
 use Rattle.projection.proofs.ProjectionLaws.{fitting-le}
 use Rattle.figures.specs.declared.Figures.{Figures}

@@ -16,8 +16,8 @@ use Rattle.classes.specs.declared.AreaUnits.{AreaUnits}
 use Rattle.classes.specs.declared.CarbonUnits.{CarbonUnits}
 use Rattle.classes.specs.Matrix.{entry}
 use Rattle.projection.specs.declared.Projected.{Projected}
-use Rattle.projection.specs.Projection.{areaTotal, nextArea, nextAreas, lostArea, projectedRegion, projectedYear}
-use Rattle.projection.specs.Inflow.{inflowCarbon}
+use Rattle.projection.specs.Projection.{areaTotal, nextArea, nextAreas, lostArea, projectedRegion}
+use Rattle.projection.specs.Inflow.{inflowCarbon, projectedYear}
 use Rattle.projection.specs.Ranges.{RowsWithin}
 use Rattle.projection.proofs.ProjectionLaws.{fitting-le, areas-kept, columns-le, carbon-columns}
 use Rattle.projection.proofs.Region.projected.Statement.{statement}
