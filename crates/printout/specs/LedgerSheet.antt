@@ -8,6 +8,6 @@ use Rattle.reckoner.specs.declared.Ledger.{Ledger}
 use Rattle.reckoner.specs.Ledger.{firstYear}
 use Rattle.reckoner.specs.Calls.{closedBuffer}
 
--- ---- the same of a ledger, which is what the code prints from
+-- its years from the first on, over the report that closing writes into a buffer for 20 years
 unfoldable pub ledgerSheet : Ledger → List ℕ
 ledgerSheet l = sheetOf (firstYear l) (l .given) (closedBuffer l (replicate 1312 0))

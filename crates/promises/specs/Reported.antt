@@ -29,7 +29,7 @@ unfoldable pub periodTotal : List Figures → ℤ
 periodTotal [] = pos 0
 periodTotal (f ∷ fs) = f .credited .0 +ℤ periodTotal fs
 
--- both regions after years of projection
+-- a region after years of projection
 unfoldable pub projectedYears : List ℕ → List Year → Region → Region
 projectedYears matrix [] region = region
 projectedYears matrix (y ∷ ys) region = projectedYears matrix ys (projectedRegion matrix region)
