@@ -21,11 +21,11 @@ pub record Range : Type 0 where
   pub high : ℕ
 
 infix 68 _from_to_ _upTo_
-abbrev pub _from_to_ : ℕ → ℕ → ℕ → Range
+abbrev pub _from_to_ : (x low high : ℕ) → Range
 _from_to_ x low high = record { low = low; number = x; high = high }
 
 -- "Zero quantities are allowed"
-abbrev pub _upTo_ : ℕ → ℕ → Range
+abbrev pub _upTo_ : (x high : ℕ) → Range
 _upTo_ x high = x from 0 to high
 
 -- FU: kind (1 diesel, 2 gasoline, 3 crude), grams of fuel up to 10^12
@@ -55,7 +55,7 @@ ActivitiesInRange (a ∷ rest) = ActivityInRange a × ActivitiesInRange rest
 
 -- ---- grams
 -- the first, second or third of three, for 1, 2 and 3
-abbrev ofThree : ℕ → ℕ → ℕ → ℕ → ℕ
+abbrev ofThree : (k a b c : ℕ) → ℕ
 ofThree k a b c = getD (a ∷ b ∷ c ∷ []) (k - 1) 0
 
 -- FU: grams × 318,630, 306,999 or 310,059 ÷ 100,000 (document 001, J(5): net calorific value × emission factor); VE: its product is fuel as in FU
@@ -65,7 +65,7 @@ fuelFactor kind = ofThree kind 318_630 306_999 310_059
 -- NI: document 01's w, the N2O-N share of applied nitrogen in 10^-5: 1325, 1425, 1225 by source for crop 1 and 625, 725, 525 for crop 2. It sums
 -- direct emission, 0.01 (rice 0.003), deposition, 0.10 (organic 0.20, residue none) × 0.010, and leaching, 0.30 × 0.0075
 -- (document 001, equations 17 to 24; 2006 IPCC Guidelines, volume 4, tables 11.1 and 11.3)
-abbrev pub n2oShare : ℕ → ℕ → ℕ
+abbrev pub n2oShare : (source crop : ℕ) → ℕ
 n2oShare source crop = getD (1325 ∷ 1425 ∷ 1225 ∷ 625 ∷ 725 ∷ 525 ∷ []) (3 * (crop - 1) + (source - 1)) 0
 
 -- LI: grams × 132, 143 or 220 ÷ 300 (document 001, equations 25 and 26: 0.12, 0.13, 0.20 × 44 ÷ 12)

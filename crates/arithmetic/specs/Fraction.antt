@@ -23,13 +23,13 @@ unfoldable pub whole : ℤ → Fraction
 whole z = record { num = z; den = 1; positive = zero-lt-suc 0 }
 
 infixl 60 _+ᶠ_ _-ᶠ_
-unfoldable pub _+ᶠ_ : Fraction → Fraction → Fraction
+unfoldable pub _+ᶠ_ : (x y : Fraction) → Fraction
 x +ᶠ y = record { num = x .num *ℤ pos (y .den) +ℤ y .num *ℤ pos (x .den); den = x .den * y .den; positive = mul-pos (x .positive) (y .positive) }
 
 unfoldable pub negᶠ : Fraction → Fraction
 negᶠ x = record { num = negℤ (x .num); den = x .den; positive = x .positive }
 
-unfoldable pub _-ᶠ_ : Fraction → Fraction → Fraction
+unfoldable pub _-ᶠ_ : (x y : Fraction) → Fraction
 x -ᶠ y = x +ᶠ negᶠ y
 
 -- times a natural number, and divided by a positive one

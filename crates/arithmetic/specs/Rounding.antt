@@ -4,7 +4,7 @@ use Prim.Native.Nat.{ℕ, _+_, _-_, _/_}
 use lib.IntN.{ℤ, pos, negsuc}
 
 -- n ÷ d, rounded up
-unfoldable pub ceilDiv : ℕ → ℕ → ℕ
+unfoldable pub ceilDiv : (n d : ℕ) → ℕ
 ceilDiv n d = (n + (d - 1)) / d
 
 -- z ÷ d, rounded down, away from zero for a negative z (negsuc n is -(n + 1))

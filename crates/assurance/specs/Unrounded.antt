@@ -29,7 +29,7 @@ unfoldable pub openedᶠ : State → Unrounded
 openedᶠ s = record { project = λ i. whole (pos (area (s .project .areas) i)); belt = λ i. whole (pos (area (s .belt .areas) i)); total = whole (pos 0) }
 
 -- flow i to j = area i × probability ÷ 1,000,000
-unfoldable pub flowᶠ : (ℕ → Fraction) → List ℕ → ℕ → ℕ → Fraction
+unfoldable pub flowᶠ : (areas : ℕ → Fraction) (matrix : List ℕ) (i j : ℕ) → Fraction
 flowᶠ areas matrix i j = areas i ×ᶠ entry matrix i j ÷ᶠ million by lit< tt
 
 -- carbon = sum of flow × factor

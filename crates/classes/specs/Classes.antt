@@ -39,7 +39,7 @@ deforestationProbabilities = 24900 ∷ 30900 ∷ 0 ∷ 34500 ∷ 14100 ∷ 10000
 
 -- the emission factor (document 01: factor) from class i to class j by a list of stocks: stock i minus stock j if that is positive and j is
 -- neither TP nor PP; otherwise 0. (A difference of naturals is 0 where it would be negative.)
-unfoldable pub emissionFactor : List ℕ → ℕ → ℕ → ℕ
+unfoldable pub emissionFactor : (stocks : List ℕ) (i j : ℕ) → ℕ
 emissionFactor stocks i j = cond (eqb j TP || eqb j PP) 0 (getD stocks i 0 - getD stocks j 0)
 
 -- the greatest starting area, in area units: document 01, "Each total is at most 10^12"

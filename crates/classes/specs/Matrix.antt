@@ -10,7 +10,7 @@ use Rattle.arithmetic.specs.Sum.{sum, listed}
 use Rattle.classes.specs.Classes.{classes, NF, deforestationProbabilities}
 
 -- the entry in row i and column j
-abbrev pub entry : List ℕ → ℕ → ℕ → ℕ
+abbrev pub entry : (table : List ℕ) (i j : ℕ) → ℕ
 entry table i j = getD table (12 * i + j) 0
 
 -- the table of f i j: the one at place k stands in row k / 12 and column k % 12
@@ -26,7 +26,7 @@ abbrev pub RowsSum : List ℕ → Type 0
 RowsSum matrix = (i : ℕ) → i < classes → sum classes (entry matrix i) ≡ million
 
 -- Option 1: the number of table 4 in column NF, the rest of the row on the diagonal. (NF's number is 0, so NF stays NF.)
-unfoldable pub optionOne : ℕ → ℕ → ℕ
+unfoldable pub optionOne : (i j : ℕ) → ℕ
 optionOne i j = cond (eqb j i) (million - getD deforestationProbabilities i 0) (cond (eqb j NF) (getD deforestationProbabilities i 0) 0)
 
 unfoldable pub optionOneMatrix : List ℕ

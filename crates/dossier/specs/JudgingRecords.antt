@@ -30,9 +30,9 @@ head = do
   give (record { option = option; firstYear = firstYear; years = years })
 
 -- PA or DA: its total in range
-unfoldable pub areas : ℕ → ℕ → Reader (List ℕ)
-areas m least = do
-  begin m 96
+unfoldable pub areas : (mark least : ℕ) → Reader (List ℕ)
+areas mark least = do
+  begin mark 96
   xs ← fields 12 8
   within areaTotalWrong least (total xs) greatestArea
   give xs
@@ -56,9 +56,9 @@ unfoldable pub matrixUnder : ℕ → Reader (Option (List ℕ))
 matrixUnder option = cond (eqb option 2) (do xs ← matrix; give (some xs)) (give none)
 
 -- CP or CD: its total the settled one
-unfoldable pub conversions : ℕ → ℕ → Reader (List ℕ)
-conversions m settledTotal = do
-  begin m 1152
+unfoldable pub conversions : (mark settledTotal : ℕ) → Reader (List ℕ)
+conversions mark settledTotal = do
+  begin mark 1152
   xs ← fields 144 8
   equal conversionTotalWrong (total xs) settledTotal
   give xs

@@ -41,7 +41,7 @@ abbrev pub layouts : List Layout
 layouts = fuel ∷ vehicles ∷ nitrogen ∷ lime ∷ []
 
 -- each number in a field of its width
-abbrev pub inFields : List ℕ → List ℕ → List ℕ
+abbrev pub inFields : (widths numbers : List ℕ) → List ℕ
 inFields (w ∷ widths) (x ∷ numbers) = bytes w x ++ inFields widths numbers
 inFields (w ∷ widths) [] = []
 inFields [] numbers = []

@@ -45,20 +45,20 @@ mark m s = cond (ltb (length s) 2) (refused bytesMissing) (cond (eqb (number (ta
 unfoldable pub stands : (ℕ → Bool) → List ℕ → Bool
 stands kind s = cond (ltb (length s) 2) false (kind (number (take 2 s)))
 
--- the kind of one mark alone
-abbrev pub is : ℕ → ℕ → Bool
+-- the kind of one mark alone, m
+abbrev pub is : (m x : ℕ) → Bool
 is m x = eqb x m
 
 -- goes on with r if a mark of that kind stands here, with q if not
-unfoldable pub upon : {A : Type 0} → (ℕ → Bool) → Reader A → Reader A → Reader A
+unfoldable pub upon : {A : Type 0} (kind : ℕ → Bool) (r q : Reader A) → Reader A
 upon kind r q s = cond (stands kind s) (r s) (q s)
 
 -- "or inside a record": fewer than n bytes are left
 unfoldable pub present : ℕ → Reader (Unit {0})
 present n s = cond (ltb (length s) n) (refused bytesMissing) (accepted tt s)
 
--- a record with n bytes of fields: its mark, then bytes missing, and the fields only after these
-unfoldable pub begin : ℕ → ℕ → Reader (Unit {0})
+-- a record with n bytes of fields: its mark m, then bytes missing, and the fields only after these
+unfoldable pub begin : (m n : ℕ) → Reader (Unit {0})
 begin m n = do
   mark m
   present n
@@ -68,20 +68,20 @@ unfoldable pub field : ℕ → Reader ℕ
 field w s = accepted (number (take w s)) (drop w s)
 
 -- k fields of w bytes each
-unfoldable pub fields : ℕ → ℕ → Reader (List ℕ)
+unfoldable pub fields : (k w : ℕ) → Reader (List ℕ)
 fields k w s = accepted (numbers k w s) (drop (k * w) s)
 
 -- whether x is below the range or above it
-unfoldable pub outside : ℕ → ℕ → ℕ → Bool
+unfoldable pub outside : (low x high : ℕ) → Bool
 outside low x high = cond (ltb x low) true (ltb high x)
 
--- the cause n where x is out of range
-unfoldable pub within : ℕ → ℕ → ℕ → ℕ → Reader (Unit {0})
-within n low x high s = cond (outside low x high) (refused n) (accepted tt s)
+-- refuses for the cause where x is out of range
+unfoldable pub within : (cause low x high : ℕ) → Reader (Unit {0})
+within cause low x high s = cond (outside low x high) (refused cause) (accepted tt s)
 
--- the cause n unless x and y are equal
-unfoldable pub equal : ℕ → ℕ → ℕ → Reader (Unit {0})
-equal n x y s = cond (eqb x y) (accepted tt s) (refused n)
+-- refuses for the cause unless x and y are equal
+unfoldable pub equal : (cause x y : ℕ) → Reader (Unit {0})
+equal cause x y s = cond (eqb x y) (accepted tt s) (refused cause)
 
 -- "nothing after it": any byte more is 2
 unfoldable pub nothing : Reader (Unit {0})

@@ -13,7 +13,7 @@ use Rattle.figures.specs.declared.Figures.{Figures}
 
 -- reference (document 001, equations 1 to 3: project reference level) = projected carbon × 11 × d ÷ (300 × D), down; belt reference alike.
 -- 10^-8 tC are 11 ÷ 300 g of CO2: × 44 ÷ 12 × 10^6
-unfoldable pub referenceLevel : ℕ → ℕ → ℕ → ℕ
+unfoldable pub referenceLevel : (carbon d D : ℕ) → ℕ
 referenceLevel carbon d D = carbon * 11 * d / (300 * D)
 
 -- sum of conversion × factor
@@ -21,7 +21,7 @@ unfoldable pub monitoredCarbon : (ℕ → ℕ → ℕ) → List ℕ → ℕ
 monitoredCarbon factor conversions = sum classes (λ i. sum classes (λ j. entry conversions i j * factor i j))
 
 -- under Option 1 only conversions into NF count, in project and belt
-unfoldable pub countedFactor : ℕ → (ℕ → ℕ → ℕ) → ℕ → ℕ → ℕ
+unfoldable pub countedFactor : (option : ℕ) (factor : ℕ → ℕ → ℕ) (i j : ℕ) → ℕ
 countedFactor option factor i j = cond (eqb option 1) (cond (eqb j NF) (factor i j) 0) (factor i j)
 
 -- project (document 001: emissions from stock change) = that sum × 11 ÷ 300, up; belt alike
@@ -29,7 +29,7 @@ unfoldable pub stockChangeEmissions : ℕ → ℕ
 stockChangeEmissions carbon = ceilDiv (carbon * 11) 300
 
 -- displaced = belt minus belt reference if positive, otherwise 0
-unfoldable pub displacedEmissions : ℤ → ℤ → ℤ
+unfoldable pub displacedEmissions : (belt beltReference : ℤ) → ℤ
 displacedEmissions belt beltReference = positivePart (belt -ℤ beltReference)
 
 -- reduction = reference − project − activity − displaced (may be negative)

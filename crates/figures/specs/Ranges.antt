@@ -16,7 +16,7 @@ abbrev pub SmallYear : YearCarbon → Type 0
 SmallYear c = SmallCarbon (c .projected .0) × SmallCarbon (c .monitored .0)
 
 -- d operating days of a year of D days
-abbrev pub DaysOf : ℕ → ℕ → Type 0
+abbrev pub DaysOf : (d D : ℕ) → Type 0
 DaysOf d D = (d ≤ D) × (0 < D) × (D ≤ 366)
 
 -- a table of conversions, by the area of all of them

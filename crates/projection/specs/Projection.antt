@@ -17,7 +17,7 @@ abbrev pub areaTotal : List AreaUnits → ℕ
 areaTotal areas = sum classes (area areas)
 
 -- flow i to j (document 001: projected area of land converted) = area i × probability ÷ 1,000,000, rounded down
-abbrev pub flow : List AreaUnits → List ℕ → ℕ → ℕ → ℕ
+abbrev pub flow : (areas : List AreaUnits) (matrix : List ℕ) (i j : ℕ) → ℕ
 flow areas matrix i j = area areas i * entry matrix i j / million
 
 -- projected carbon of the year = sum of flow × factor

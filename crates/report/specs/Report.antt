@@ -20,5 +20,5 @@ abbrev pub closing : (total : ℤ) (project belt : ℕ) → List ℤ
 closing total project belt = total ∷ pos (tonnesOf total) ∷ pos project ∷ pos belt ∷ []
 
 -- of k years
-unfoldable pub reported : ℕ → List Figures → (total : ℤ) (project belt : ℕ) → List ℤ
+unfoldable pub reported : (k : ℕ) (figures : List Figures) (total : ℤ) (project belt : ℕ) → List ℤ
 reported k figures total project belt = eights (take k figures) ++ closing total project belt

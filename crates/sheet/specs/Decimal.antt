@@ -13,7 +13,7 @@ abbrev pub digit : ℕ → ℕ
 digit n = code "0" + n
 
 -- the digits of a number of at most k + 1 digits, the most significant first
-unfoldable pub digits : ℕ → ℕ → List ℕ
+unfoldable pub digits : (k n : ℕ) → List ℕ
 digits zero n = digit n ∷ []
 digits (suc k) n = cond (ltb n 10) (digit n ∷ []) (digits k (n / 10) ++ (digit (n % 10) ∷ []))
 

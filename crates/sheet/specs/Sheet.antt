@@ -9,22 +9,22 @@ use Rattle.sheet.specs.Decimal.{decimal, decimalOf}
 unfoldable pub header : List ℕ
 header = ascii "year reference project activity belt belt-reference displaced reduction credited\n"
 
--- figures of a result buffer from a place on, each after a space
-unfoldable pub spaced : ℕ → List ℕ → ℕ → List ℕ
+-- k figures of a result buffer from a place on, each after a space
+unfoldable pub spaced : (k : ℕ) (result : List ℕ) (at : ℕ) → List ℕ
 spaced zero result at = []
 spaced (suc k) result at = ascii " " ++ (decimalOf (figureAt result at) ++ spaced k result (at + 8))
 
 -- the line of a year: the year and its eight figures
-unfoldable pub yearLine : ℕ → List ℕ → ℕ → List ℕ
+unfoldable pub yearLine : (year : ℕ) (result : List ℕ) (at : ℕ) → List ℕ
 yearLine year result at = decimal year ++ (spaced 8 result at ++ ascii "\n")
 
 -- the lines of n years from the first on, whose figures stand from a place on
-unfoldable pub yearLines : ℕ → ℕ → List ℕ → ℕ → List ℕ
+unfoldable pub yearLines : (n year : ℕ) (result : List ℕ) (at : ℕ) → List ℕ
 yearLines zero year result at = []
 yearLines (suc n) year result at = yearLine year result at ++ yearLines n (suc year) result (at + 64)
 
 -- a word and the k figures that it names
-unfoldable pub named : List ℕ → ℕ → List ℕ → ℕ → List ℕ
+unfoldable pub named : (word : List ℕ) (k : ℕ) (result : List ℕ) (at : ℕ) → List ℕ
 named word k result at = word ++ spaced k result at
 
 -- "total 398786962 tonnes 398 balance 0 0": the four numbers from a place on

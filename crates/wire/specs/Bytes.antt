@@ -14,12 +14,12 @@ number [] = 0
 number (b ∷ s) = b * 256 ^ length s + number s
 
 -- the last w bytes of a number, the most significant first: all of it where it is below 256 ^ w
-unfoldable pub bytes : ℕ → ℕ → List ℕ
+unfoldable pub bytes : (w n : ℕ) → List ℕ
 bytes zero n = []
 bytes (suc w) n = n / 256 ^ w % 256 ∷ bytes w n
 
 -- the numbers that the first k fields of w bytes say
-unfoldable pub numbers : ℕ → ℕ → List ℕ → List ℕ
+unfoldable pub numbers : (k w : ℕ) (s : List ℕ) → List ℕ
 numbers zero w s = []
 numbers (suc k) w s = number (take w s) ∷ numbers k w (drop w s)
 
@@ -39,5 +39,5 @@ total [] = 0
 total (x ∷ xs) = x + total xs
 
 -- the number that the w bytes from at say
-unfoldable pub fieldAt : ℕ → List ℕ → ℕ → ℕ
+unfoldable pub fieldAt : (w : ℕ) (s : List ℕ) (at : ℕ) → ℕ
 fieldAt w s at = number (take w (drop at s))
