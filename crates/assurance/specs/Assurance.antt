@@ -18,7 +18,7 @@ pub record RegionAssured (y start : ℕ) (areas : List AreaUnits) (balance : ℕ
 
 -- what five times the gap stays below, in n accepted years with m activity records
 abbrev pub gapBound : (n m : ℕ) → ℕ
-gapBound n m = 261576 * (n * (n + 1)) + 21 * n + 4 * m
+gapBound n m = 261_576 * (n * (n + 1)) + 21 * n + 4 * m
 
 -- of the totals: reported total ≤ unrounded total; the gap stays below its bound where n ≥ 1; both 0 where n = 0
 pub record TotalAssured (n m : ℕ) (total : ℤ) (unrounded : Fraction) : Type 0 where

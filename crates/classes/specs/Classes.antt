@@ -30,12 +30,12 @@ NF = 11
 
 -- carbon stock by class, in hundredths of tC per ha (document 001, table 1, total biomass)
 unfoldable pub carbonStocks : List ℕ
-carbonStocks = 9130 ∷ 13511 ∷ 5654 ∷ 4821 ∷ 0 ∷ 8415 ∷ 9240 ∷ 3986 ∷ 4265 ∷ 5654 ∷ 5654 ∷ 0 ∷ []
+carbonStocks = 9130 ∷ 13_511 ∷ 5654 ∷ 4821 ∷ 0 ∷ 8415 ∷ 9240 ∷ 3986 ∷ 4265 ∷ 5654 ∷ 5654 ∷ 0 ∷ []
 
 -- annual probability of deforestation by class, in millionths: document 01's yearly probability of turning into non-forest
 -- (document 001, table 4)
 unfoldable pub deforestationProbabilities : List ℕ
-deforestationProbabilities = 24900 ∷ 30900 ∷ 0 ∷ 34500 ∷ 14100 ∷ 10000 ∷ 41700 ∷ 50600 ∷ 97200 ∷ 116900 ∷ 0 ∷ 0 ∷ []
+deforestationProbabilities = 24_900 ∷ 30_900 ∷ 0 ∷ 34_500 ∷ 14_100 ∷ 10_000 ∷ 41_700 ∷ 50_600 ∷ 97_200 ∷ 116_900 ∷ 0 ∷ 0 ∷ []
 
 -- the emission factor (document 01: factor) from class i to class j by a list of stocks: stock i minus stock j if that is positive and j is
 -- neither TP nor PP; otherwise 0. (A difference of naturals is 0 where it would be negative.)

@@ -15,7 +15,7 @@ pub record AcceptedExactly {A : Type 0} (judge : Reader A) (InRange : A → Type
 
 -- what is due can be said in a year piece: the year in 16 bits, totals of PA and DA in range
 pub record DueInRange (due : Due) : Type 0 where
-  pub year : due .state .year < 65536
+  pub year : due .state .year < 65_536
   pub start : due .terms .start .0 ≤ greatestArea
   pub beltstart : due .terms .beltstart .0 ≤ greatestArea
 

@@ -23,4 +23,4 @@ RowsWithin matrix = (i : ℕ) → i < classes → sum classes (entry matrix i) �
 
 -- a factor fits 16 bits
 abbrev pub FactorsFit : List ℕ → Type 0
-FactorsFit factors = (k : ℕ) → getD factors k 0 < 65536
+FactorsFit factors = (k : ℕ) → getD factors k 0 < 65_536

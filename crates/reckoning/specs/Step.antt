@@ -50,7 +50,7 @@ stepInside s (StepAnswer.Refused n) = Unit {0}
 
 -- ranges in which every sum fits 64 bits, by the ladder of the crate classes
 pub record SmallState (state : State) : Type 0 where
-  pub year : state .year < 65536
+  pub year : state .year < 65_536
   pub project : SmallRegion (state .project)
   pub belt : SmallRegion (state .belt)
   pub total : mag (state .total .0) ≤ greatestTotal
