@@ -25,6 +25,7 @@ use Rattle.projection.specs.Ranges.{SmallRegion, RowsWithin}
 use Rattle.projection.proofs.ProjectionLaws.{projected-carbon-le}
 use Rattle.figures.specs.declared.Figures.{Figures}
 use Rattle.figures.specs.declared.YearCarbon.{YearCarbon}
+use Rattle.figures.specs.declared.YearDays.{YearDays}
 use Rattle.figures.specs.Figures.{referenceLevel, monitoredCarbon, stockChangeEmissions, displacedEmissions, reductionOf, creditedOf, tonnesOf, figuresOf}
 use Rattle.figures.specs.Carbon.{carbonFigures}
 use Rattle.figures.specs.Ranges.{SmallCarbon, SmallYear, SmallTable, DaysOf}
@@ -47,16 +48,16 @@ projected-small region matrix factor small rows most =
     let all : areaTotal (region .areas) ≤ greatestArea = omega arith in
     le-trans (projected-carbon-le (region .areas) matrix rows factor 65535 most) (mul-le-mul-right 65535 all)
 
--- the days of a year of the calendar
-pub calendar-days : (d year : ℕ) → d ≤ daysInYear year → DaysOf d (daysInYear year)
-calendar-days d year h = (h, omega (arith, days-range year), omega (arith, days-range year))
+-- days of operation that are not above the days of their calendar year
+pub calendar-days : (days : YearDays) (year : ℕ) → days .calendar ≡ daysInYear year → days .operating ≤ days .calendar → DaysOf days
+calendar-days days year e h = (h, omega (arith, days-range year), omega (arith, days-range year))
 
 -- ---- grams that carbon makes
 module _ {carbon : ℕ} (small : SmallCarbon carbon) where
-  pub reference-small : {d D : ℕ} → DaysOf d D → referenceLevel carbon d D ≤ greatestEmissions
+  pub reference-small : (days : YearDays) → DaysOf days → referenceLevel carbon (days .operating) (days .calendar) ≤ greatestEmissions
   unfolding referenceLevel
-  reference-small {d} {D} (h, positive, most) =
-      omega (arith, div-le-of-le-mul (300 * D) {m = carbon * 11 * d} {n = greatestEmissions} (omega (arith, mul-le-mul small h)))
+  reference-small days (h, positive, most) =
+      omega (arith, div-le-of-le-mul (300 * days .calendar) {m = carbon * 11 * days .operating} {n = greatestEmissions} (omega (arith, mul-le-mul small h)))
 
   pub emissions-small : stockChangeEmissions carbon ≤ greatestEmissions
   unfolding stockChangeEmissions
@@ -131,7 +132,7 @@ figures-small reference project activity belt beltReference r p a b br =
     }
 
 -- those of a year's carbon and activity
-pub year-small : (project belt : YearCarbon) (activity : ℤ) (d D : ℕ) → SmallYear project → SmallYear belt → mag activity ≤ greatestActivity → DaysOf d D
-    → FiguresSmall (carbonFigures project belt activity d D)
-year-small project belt activity d D p b a days =
-    figures-small _ _ activity _ _ (reference-small (p .0) days) (emissions-small (p .1)) a (emissions-small (b .1)) (reference-small (b .0) days)
+pub year-small : (project belt : YearCarbon) (activity : ℤ) (days : YearDays) → SmallYear project → SmallYear belt → mag activity ≤ greatestActivity → DaysOf days
+    → FiguresSmall (carbonFigures project belt activity days)
+year-small project belt activity days p b a h =
+    figures-small _ _ activity _ _ (reference-small (p .0) days h) (emissions-small (p .1)) a (emissions-small (b .1)) (reference-small (b .0) days h)

@@ -7,6 +7,7 @@ use Rattle.arithmetic.specs.Sum.{sum}
 use Rattle.classes.specs.Classes.{greatestArea}
 use Rattle.classes.specs.Ranges.{greatestCarbon}
 use Rattle.figures.specs.declared.YearCarbon.{YearCarbon}
+use Rattle.figures.specs.declared.YearDays.{YearDays}
 
 -- the carbon of a region or a table
 abbrev pub SmallCarbon : ℕ → Type 0
@@ -15,9 +16,9 @@ SmallCarbon carbon = carbon ≤ greatestCarbon
 abbrev pub SmallYear : YearCarbon → Type 0
 SmallYear c = SmallCarbon (c .projected .0) × SmallCarbon (c .monitored .0)
 
--- d operating days of a year of D days
-abbrev pub DaysOf : (d D : ℕ) → Type 0
-DaysOf d D = (d ≤ D) × (0 < D) × (D ≤ 366)
+-- days of operation within the days of a calendar year
+abbrev pub DaysOf : YearDays → Type 0
+DaysOf days = (days .operating ≤ days .calendar) × (0 < days .calendar) × (days .calendar ≤ 366)
 
 -- a table of conversions, by the area of all of them
 abbrev pub SmallTable : List ℕ → Type 0

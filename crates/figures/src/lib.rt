@@ -70,6 +70,12 @@ pub struct YearCarbon {
     pub monitored: CarbonUnits,
 }
 
+// The days of operation of a year and the days of its calendar year: d and D of the reference level.
+pub struct YearDays {
+    pub operating: u64,
+    pub calendar: u64,
+}
+
 // A factor into class j, if it counts for monitored conversions.
 fn counted_factor(option: u64, factor: u64, j: usize) -> u64
     ensures { λ r. ⌜ r ≡ cond (eqb option 1) (cond (eqb j NF) factor 0) factor ⌝ }
@@ -120,14 +126,14 @@ pub fn fill_factors(
     fill_counted(counted, factors, option);
 }
 
-// The reference level for d = days of D = yeardays. Carbon × 11 × d passes 64 bits, so the quotient of the carbon by the divisor and its remainder are weighed apart.
-fn reference_level(carbon: CarbonUnits, days: u64, yeardays: u64) -> Grams
+// The reference level of a year of these days. Carbon × 11 × d passes 64 bits, so the quotient of the carbon by the divisor and its remainder are weighed apart.
+fn reference_level(carbon: CarbonUnits, days: YearDays) -> Grams
     requires { ⌜ SmallCarbon (carbon .0) ⌝ }
-    requires { ⌜ DaysOf days yeardays ⌝ }
-    ensures { λ r. ⌜ r .0 ≡ pos (referenceLevel (carbon .0) days yeardays) ⌝ }
+    requires { ⌜ DaysOf days ⌝ }
+    ensures { λ r. ⌜ r .0 ≡ pos (referenceLevel (carbon .0) (days .operating) (days .calendar)) ⌝ }
 {
-    let weight = 11 * days;
-    let divisor = 300 * yeardays;
+    let weight = 11 * days.operating;
+    let divisor = 300 * days.calendar;
     Grams::of(carbon.0 / divisor * weight + carbon.0 % divisor * weight / divisor)
 }
 
@@ -187,17 +193,16 @@ pub fn year_figures(
     project: YearCarbon,
     belt: YearCarbon,
     activity: Grams,
-    days: u64,
-    yeardays: u64,
+    days: YearDays,
 ) -> Figures
     requires { ⌜ (SmallYear project) × (SmallYear belt) × (mag (activity .0) ≤ greatestActivity) ⌝ }
-    requires { ⌜ DaysOf days yeardays ⌝ }
-    ensures { λ r. ⌜ r ≡ carbonFigures project belt (activity .0) days yeardays ⌝ }
+    requires { ⌜ DaysOf days ⌝ }
+    ensures { λ r. ⌜ r ≡ carbonFigures project belt (activity .0) days ⌝ }
 {
-    let reference = reference_level(project.projected, days, yeardays);
+    let reference = reference_level(project.projected, days);
     let emitted = stock_change_emissions(project.monitored);
     let belt_emitted = stock_change_emissions(belt.monitored);
-    let belt_reference = reference_level(belt.projected, days, yeardays);
+    let belt_reference = reference_level(belt.projected, days);
     let displaced = displaced_emissions(belt_emitted, belt_reference);
     let reduction = reference.minus(emitted).minus(activity).minus(displaced);
     let credited = credited_part(reduction);

@@ -1,16 +1,19 @@
 -- The figures of a year in range are within the ladder.
 -- Assumes nothing.
+use mathlib.Core.Path.{refl}
 use Prim.Native.Nat.{ℕ, _≤_}
 use mathlib.Core.List.{List}
 use native.Mathlib.Omega.{arith}
 use lib.ListN.{getD}
 use Rattle.classes.specs.Classes.{emissionFactor}
+use Rattle.classes.specs.Calendar.{daysInYear}
 use Rattle.classes.specs.Ranges.{greatestEmissions}
 use Rattle.classes.proofs.FactorLaws.{factor-le}
 use Rattle.projection.specs.declared.Region.{Region}
 use Rattle.projection.specs.Ranges.{SmallArea, SmallRegion, RowsWithin}
 use Rattle.activity.proofs.ActivityLaws.{emissions-le}
 use Rattle.figures.specs.declared.Terms.{Terms}
+use Rattle.figures.specs.declared.YearDays.{YearDays}
 use Rattle.figures.specs.Year.{Year}
 use Rattle.figures.specs.Figures.{countedFactor}
 use Rattle.figures.specs.Ranges.{SmallTable}
@@ -26,7 +29,9 @@ module _ (t : Terms) (stocks : (i : ℕ) → getD (t .stocks) i 0 ≤ 65535) (ro
   reference-range : (region : Region) → SmallRegion region → regionReference t y region ≤ greatestEmissions
   unfolding regionReference
   reference-range region r =
-      reference-small (projected-small region (t .matrix) (emissionFactor (t .stocks)) r rows (factor-le (t .stocks) 65535 stocks)) (calendar-days (y .operatingDays) (y .year) (h .days .most))
+      let small = projected-small region (t .matrix) (emissionFactor (t .stocks)) r rows (factor-le (t .stocks) 65535 stocks) in
+      let days : YearDays = record { operating = y .operatingDays; calendar = daysInYear (y .year) } in
+      reference-small small days (calendar-days days (y .year) refl (h .days .most))
 
   table-range : (sum : ℕ) (conversions : List ℕ) → SmallArea sum → ConversionsInRange sum conversions → tableEmissions t conversions ≤ greatestEmissions
   unfolding tableEmissions

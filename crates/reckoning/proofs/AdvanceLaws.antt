@@ -19,12 +19,12 @@ use Rattle.projection.specs.Inflow.{projectedYear}
 use Rattle.projection.specs.Ranges.{SmallRegion, RowsWithin, FactorsFit}
 use Rattle.projection.proofs.ProjectionLaws.{fitting-le}
 use Rattle.figures.specs.declared.Figures.{Figures}
+use Rattle.figures.specs.declared.YearDays.{YearDays}
 use Rattle.figures.specs.Ranges.{SmallCarbon, SmallYear, DaysOf}
 use Rattle.figures.specs.Carbon.{carbonFigures}
 use Rattle.figures.proofs.FiguresLaws.{projected-small, year-small}
 use Rattle.figures.specs.declared.State.{State}
 use Rattle.figures.specs.Reckoning.{afterFigures}
-use Rattle.years.specs.declared.OperatingDays.{OperatingDays}
 use Rattle.reckoning.specs.declared.Advanced.{Advanced}
 use Rattle.reckoning.specs.Step.{summaryFigures, summaryAdvanced}
 
@@ -34,17 +34,17 @@ pub carbon-small : (matrix factors : List ℕ) (region : Region) (r : Projected)
 unfolding projectedYear
 carbon-small matrix factors region r rows fit small e = rw e (projected-small region matrix (entry factors) small rows (fitting-le factors fit))
 
-module _ (matrix factors : List ℕ) (state : State) (days : OperatingDays) (p b : CarbonUnits) (a : Grams) (r r′ : Projected) (figures : Figures)
+module _ (matrix factors : List ℕ) (state : State) (days : YearDays) (p b : CarbonUnits) (a : Grams) (r r′ : Projected) (figures : Figures)
     (e : r ≡ projectedYear (entry factors) matrix (state .project)) (e′ : r′ ≡ projectedYear (entry factors) matrix (state .belt))
-    (ef : figures ≡ carbonFigures (record { projected = r .carbon; monitored = p }) (record { projected = r′ .carbon; monitored = b }) (a .0) (days .days) (days .yeardays)) where
+    (ef : figures ≡ carbonFigures (record { projected = r .carbon; monitored = p }) (record { projected = r′ .carbon; monitored = b }) (a .0) days) where
   figures-are : figures ≡ summaryFigures (entry factors) matrix (record { days = days; project = p; belt = b; activity = a }) state
   unfolding summaryFigures projectedYear
   figures-are = ef ∙ rw (e, e′)
 
   pub grown-fits : SmallYear (record { projected = r .carbon; monitored = p }) → SmallYear (record { projected = r′ .carbon; monitored = b }) → mag (a .0) ≤ greatestActivity
-      → DaysOf (days .days) (days .yeardays) → mag (state .total .0) ≤ greatestTotal → SFits w64 (state .total .0 +ℤ figures .credited .0)
+      → DaysOf days → mag (state .total .0) ≤ greatestTotal → SFits w64 (state .total .0 +ℤ figures .credited .0)
   grown-fits hp hb ha hd ht =
-      let small : mag (figures .credited .0) < greatestFigure = rw ef (year-small _ _ (a .0) (days .days) (days .yeardays) hp hb ha hd .credited) in
+      let small : mag (figures .credited .0) < greatestFigure = rw ef (year-small _ _ (a .0) days hp hb ha hd .credited) in
       plus-fits (state .total .0) (figures .credited .0) ht (omega arith)
 
   pub whole : (grown : Grams) → grown .0 ≡ state .total .0 +ℤ figures .credited .0

@@ -21,7 +21,7 @@ use Rattle.reckoning.specs.declared.Stepped.{Stepped}
 unfoldable pub summaryFigures : (ℕ → ℕ → ℕ) → List ℕ → Summary → State → Figures
 summaryFigures factor matrix m state =
     carbonFigures (record { projected = record { 0 = projectedCarbon factor (state .project .areas) matrix }; monitored = m .project })
-    (record { projected = record { 0 = projectedCarbon factor (state .belt .areas) matrix }; monitored = m .belt }) (m .activity .0) (m .days .days) (m .days .yeardays)
+    (record { projected = record { 0 = projectedCarbon factor (state .belt .areas) matrix }; monitored = m .belt }) (m .activity .0) (m .days)
 
 unfoldable pub summaryAdvanced : (ℕ → ℕ → ℕ) → List ℕ → Summary → State → Advanced
 summaryAdvanced factor matrix m state = record {

@@ -5,7 +5,7 @@ use classes::Grams;
 use figures::Figures;
 use figures::State;
 use figures::YearCarbon;
-use years::OperatingDays;
+use figures::YearDays;
 use years::YearAnswer;
 ghost use mathlib.Core.Path.{_≡_};
 ghost use Prim.Native.Nat.{_≤_};
@@ -37,7 +37,7 @@ pub struct Stepped {
 // A year of these days reckoned from the carbon of its tables and the emissions of its records.
 fn advance(
     state: State,
-    days: OperatingDays,
+    days: YearDays,
     project: CarbonUnits,
     belt: CarbonUnits,
     activity: Grams,
@@ -47,7 +47,7 @@ fn advance(
     requires { ⌜ SmallState state ⌝ }
     requires { ⌜ RowsWithin (now matrix) ⌝ }
     requires { ⌜ FactorsFit (now factors) ⌝ }
-    requires { ⌜ (SmallCarbon (project .0)) × (SmallCarbon (belt .0)) × (mag (activity .0) ≤ greatestActivity) × (1 ≤ state .left) × DaysOf (days .days) (days .yeardays) ⌝ }
+    requires { ⌜ (SmallCarbon (project .0)) × (SmallCarbon (belt .0)) × (mag (activity .0) ≤ greatestActivity) × (1 ≤ state .left) × DaysOf days ⌝ }
     ensures { λ r. ⌜ r ≡ summaryAdvanced (entry (now (factors .entry))) (now (matrix .entry)) (record { days = days; project = project; belt = belt; activity = activity }) state ⌝ }
 {
     let region = state.project;
@@ -66,7 +66,7 @@ fn advance(
         projected: belt_carbon,
         monitored: belt,
     };
-    let figures = figures::year_figures(of_project, of_belt, activity, days.days, days.yeardays);
+    let figures = figures::year_figures(of_project, of_belt, activity, days);
     let credited = figures.credited;
     let total = state.total;
     let grown = total.plus(credited);

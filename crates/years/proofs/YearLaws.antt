@@ -14,6 +14,7 @@ use Rattle.classes.specs.declared.CarbonUnits.{CarbonUnits}
 use Rattle.classes.specs.declared.Grams.{Grams}
 use Rattle.classes.specs.Calendar.{daysInYear}
 use Rattle.classes.specs.Ranges.{greatestActivity}
+use Rattle.figures.specs.declared.YearDays.{YearDays}
 use Rattle.figures.specs.Year.{Year}
 use Rattle.wire.specs.Bytes.{fieldAt}
 use Rattle.dossier.specs.Marks.{YR, CP, CD}
@@ -27,40 +28,38 @@ use Rattle.dossier.proofs.ReaderLaws.{step, was, bind-no, bind-yes, bind-bind, 
 use Rattle.activities.specs.declared.RunAnswer.{RunAnswer}
 use Rattle.activities.specs.Answers.{summedActivities, runSays, runInside}
 use Rattle.figures.specs.Ranges.{SmallCarbon, DaysOf}
-use Rattle.figures.proofs.FiguresLaws.{calendar-days}
 use Rattle.years.proofs.EndLaws.{none-left-is}
-use Rattle.years.specs.declared.OperatingDays.{OperatingDays}
 use Rattle.years.specs.declared.YearAnswer.{YearAnswer}
 use Rattle.years.specs.Answers.{monitoredTable, Summary, summary, summarizedYear, summarizedRecords, summarizedTables, yearSays, recordsInside, tablesInside, yearFits}
 
 -- ---- from CP on
-module _ (factor : ℕ → ℕ → ℕ) (days : OperatingDays) (projectTotal beltTotal : ℕ) (u : List ℕ) (p : CarbonUnits) (v : List ℕ) (e : accepted p v ≡ monitoredTable factor CP projectTotal u) where
-  pub belt-no : (n : ℕ) → refused n ≡ monitoredTable factor CD beltTotal v → refused n ≡ summarizedTables factor days projectTotal beltTotal u
+module _ (factor : ℕ → ℕ → ℕ) (days : YearDays) (start beltstart : ℕ) (u : List ℕ) (p : CarbonUnits) (v : List ℕ) (e : accepted p v ≡ monitoredTable factor CP start u) where
+  pub belt-no : (n : ℕ) → refused n ≡ monitoredTable factor CD beltstart v → refused n ≡ summarizedTables factor days start beltstart u
   unfolding summarizedTables
-  belt-no n f = bind-no (monitoredTable factor CD beltTotal) _ v n f ∙ bind-yes (monitoredTable factor CP projectTotal) _ u p v e
+  belt-no n f = bind-no (monitoredTable factor CD beltstart) _ v n f ∙ bind-yes (monitoredTable factor CP start) _ u p v e
 
-  pub belt-yes : (b : CarbonUnits) (w : List ℕ) → accepted b w ≡ monitoredTable factor CD beltTotal v → summarizedRecords days p b w ≡ summarizedTables factor days projectTotal beltTotal u
+  pub belt-yes : (b : CarbonUnits) (w : List ℕ) → accepted b w ≡ monitoredTable factor CD beltstart v → summarizedRecords days p b w ≡ summarizedTables factor days start beltstart u
   unfolding summarizedTables
-  belt-yes b w f = bind-yes (monitoredTable factor CD beltTotal) _ v b w f ∙ bind-yes (monitoredTable factor CP projectTotal) _ u p v e
+  belt-yes b w f = bind-yes (monitoredTable factor CD beltstart) _ v b w f ∙ bind-yes (monitoredTable factor CP start) _ u p v e
 
 -- the tables and records of a year, and the same summarized
-unfoldable tables : (calendarYear days projectTotal beltTotal : ℕ) → Reader Year
-tables calendarYear days projectTotal beltTotal = do
-  p ← conversions CP projectTotal
-  b ← conversions CD beltTotal
+unfoldable tables : (calendarYear d start beltstart : ℕ) → Reader Year
+tables calendarYear d start beltstart = do
+  p ← conversions CP start
+  b ← conversions CD beltstart
   l ← activities []
-  give (record { year = calendarYear; operatingDays = days; conversions = p; beltConversions = b; activities = l })
+  give (record { year = calendarYear; operatingDays = d; conversions = p; beltConversions = b; activities = l })
 
-tables-summarized : (factor : ℕ → ℕ → ℕ) (calendarYear days projectTotal beltTotal : ℕ) (u : List ℕ)
-    → after (tables calendarYear days projectTotal beltTotal u) (λ y. give (summary factor y))
-    ≡ summarizedTables factor (record { days = days; yeardays = daysInYear calendarYear }) projectTotal beltTotal u
+tables-summarized : (factor : ℕ → ℕ → ℕ) (calendarYear d start beltstart : ℕ) (u : List ℕ)
+    → after (tables calendarYear d start beltstart u) (λ y. give (summary factor y))
+    ≡ summarizedTables factor (record { operating = d; calendar = daysInYear calendarYear }) start beltstart u
 unfolding tables summarizedTables summarizedRecords monitoredTable summedActivities give _>>=_
-tables-summarized factor calendarYear days projectTotal beltTotal u =
-    bind-bind (conversions CP projectTotal u) _ _
-    ∙ after-same (conversions CP projectTotal u) _ _ (λ p v. bind-bind (conversions CD beltTotal v) _ _
-    ∙ after-same (conversions CD beltTotal v) _ _ (λ b w. bind-bind (activities [] w) _ _ ∙ sym (bind-bind (activities [] w) _ _))
-    ∙ sym (bind-bind (conversions CD beltTotal v) _ _))
-    ∙ sym (bind-bind (conversions CP projectTotal u) _ _)
+tables-summarized factor calendarYear d start beltstart u =
+    bind-bind (conversions CP start u) _ _
+    ∙ after-same (conversions CP start u) _ _ (λ p v. bind-bind (conversions CD beltstart v) _ _
+    ∙ after-same (conversions CD beltstart v) _ _ (λ b w. bind-bind (activities [] w) _ _ ∙ sym (bind-bind (activities [] w) _ _))
+    ∙ sym (bind-bind (conversions CD beltstart v) _ _))
+    ∙ sym (bind-bind (conversions CP start u) _ _)
 
 -- ---- YR
 pub year-none : (factor : ℕ → ℕ → ℕ) (due left start beltstart : ℕ) (u : List ℕ) (n : ℕ) → left ≡ 0 → n ≡ numberOf (noneLeft {A = Unit {0}} u)
@@ -88,7 +87,7 @@ module _ (factor : ℕ → ℕ → ℕ) (due left start beltstart : ℕ) (s : Li
         unfolding summarizedYear
         days-wrong f = bind-no (yearLeft due left start beltstart) _ (drop at s) 6 (rw (year-at, eq-eqb y due e, ← ex, ← eo, f))
 
-        pub days-right : out ≡ false → summarizedTables factor (record { days = d; yeardays = x }) start beltstart (drop (at + 6) s) ≡ summarizedYear factor due left start beltstart (drop at s)
+        pub days-right : out ≡ false → summarizedTables factor (record { operating = d; calendar = x }) start beltstart (drop (at + 6) s) ≡ summarizedYear factor due left start beltstart (drop at s)
         unfolding summarizedYear _>>=_
         days-right f = sym (rw (year-at, eq-eqb y due e, ← ex, ← eo, f) (rw ex (tables-summarized factor y d start beltstart (drop (at + 6) s))))
 
@@ -105,7 +104,7 @@ run-was-read s at r j q grams next h e i =
     (rw (e, drop-drop) at q, omega arith, k .1)
 
 -- the records of a year keep its small tables
-pub records-keep : (s : List ℕ) (r : YearAnswer) (days : OperatingDays) (p b : CarbonUnits) (u : List ℕ) → yearSays s r ≡ summarizedRecords days p b u
+pub records-keep : (s : List ℕ) (r : YearAnswer) (days : YearDays) (p b : CarbonUnits) (u : List ℕ) → yearSays s r ≡ summarizedRecords days p b u
     → recordsInside s r → SmallCarbon (p .0) → SmallCarbon (b .0) → tablesInside s r
 unfolding summarizedRecords _>>=_ give
 records-keep s (YearAnswer.Refused n) days p b u q i hp hb = tt
@@ -117,21 +116,17 @@ records-keep s (YearAnswer.Read days′ p′ b′ activity next) days p b u q i 
     (i .0, rw ep hp, rw eb hb, i .1)
 
 -- the days that were read
-tables-days : (factor : ℕ → ℕ → ℕ) (days : OperatingDays) (projectTotal beltTotal : ℕ) (u : List ℕ) (m : Summary) (v : List ℕ)
-    → summarizedTables factor days projectTotal beltTotal u ≡ accepted m v → m .days ≡ days
+tables-days : (factor : ℕ → ℕ → ℕ) (days : YearDays) (start beltstart : ℕ) (u : List ℕ) (m : Summary) (v : List ℕ)
+    → summarizedTables factor days start beltstart u ≡ accepted m v → m .days ≡ days
 unfolding summarizedTables summarizedRecords _>>=_ give
-tables-days factor days projectTotal beltTotal u m v e =
-    let p = step (monitoredTable factor CP projectTotal u) _ e in
-    let b = step (monitoredTable factor CD beltTotal (p .1)) _ (p .3) in
+tables-days factor days start beltstart u m v e =
+    let p = step (monitoredTable factor CP start u) _ e in
+    let b = step (monitoredTable factor CD beltstart (p .1)) _ (p .3) in
     let r = step (summedActivities (b .1)) _ (b .3) in
     ap (λ (x : Summary). x .days) (sym (was (r .3) .0))
 
-pub fits : (factor : ℕ → ℕ → ℕ) (s : List ℕ) (r : YearAnswer) (left : ℕ) (days : OperatingDays) (projectTotal beltTotal : ℕ) (u : List ℕ)
-    → yearSays s r ≡ summarizedTables factor days projectTotal beltTotal u → (left ≡ 0 → ⊥) → DaysOf (days .days) (days .yeardays) → yearFits left r
-fits factor s (YearAnswer.Refused n) left days projectTotal beltTotal u q some h = tt
-fits factor s (YearAnswer.Read days′ p b activity next) left days projectTotal beltTotal u q some h =
-    (omega (arith, some), rw (tables-days factor days projectTotal beltTotal u _ _ (sym q)) h)
-
--- days of operation that are not above the days of their year
-pub days-of : (days year yeardays : ℕ) → yeardays ≡ daysInYear year → days ≤ yeardays → DaysOf days yeardays
-days-of days year yeardays e h = rw e (calendar-days days year (rw e at h))
+pub fits : (factor : ℕ → ℕ → ℕ) (s : List ℕ) (r : YearAnswer) (left : ℕ) (days : YearDays) (start beltstart : ℕ) (u : List ℕ)
+    → yearSays s r ≡ summarizedTables factor days start beltstart u → (left ≡ 0 → ⊥) → DaysOf days → yearFits left r
+fits factor s (YearAnswer.Refused n) left days start beltstart u q some h = tt
+fits factor s (YearAnswer.Read days′ p b activity next) left days start beltstart u q some h =
+    (omega (arith, some), rw (tables-days factor days start beltstart u _ _ (sym q)) h)

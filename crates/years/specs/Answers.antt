@@ -10,6 +10,7 @@ use Rattle.classes.specs.declared.Grams.{Grams}
 use Rattle.classes.specs.Calendar.{daysInYear}
 use Rattle.classes.specs.Ranges.{greatestActivity}
 use Rattle.activity.specs.Activity.{activityEmissions}
+use Rattle.figures.specs.declared.YearDays.{YearDays}
 use Rattle.figures.specs.Year.{Year}
 use Rattle.figures.specs.Figures.{monitoredCarbon}
 use Rattle.figures.specs.Ranges.{SmallCarbon, DaysOf}
@@ -19,7 +20,6 @@ use Rattle.dossier.specs.Marks.{CP, CD}
 use Rattle.dossier.specs.Judging.{yearLeft}
 use Rattle.activities.specs.Answers.{summedActivities}
 use Rattle.years.specs.declared.TableAnswer.{TableAnswer}
-use Rattle.years.specs.declared.OperatingDays.{OperatingDays}
 use Rattle.years.specs.declared.YearAnswer.{YearAnswer}
 
 -- ---- CP, CD: the carbon of the conversions by a table of factors
@@ -39,14 +39,14 @@ tableInside s (TableAnswer.Refused n) = Unit {0}
 
 -- ---- YR to the last activity record
 pub record Summary : Type 0 where
-  pub days : OperatingDays
+  pub days : YearDays
   pub project : CarbonUnits
   pub belt : CarbonUnits
   pub activity : Grams
 
 abbrev pub summary : (ℕ → ℕ → ℕ) → Year → Summary
 summary factor y = record {
-  days = record { days = y .operatingDays; yeardays = daysInYear (y .year) };
+  days = record { operating = y .operatingDays; calendar = daysInYear (y .year) };
   project = record { 0 = monitoredCarbon factor (y .conversions) };
   belt = record { 0 = monitoredCarbon factor (y .beltConversions) };
   activity = record { 0 = pos (activityEmissions (y .activities)) };
@@ -58,15 +58,15 @@ summarizedYear factor dueYear left start beltstart = do
   give (summary factor y)
 
 -- from the activity records on, and from CP on
-unfoldable pub summarizedRecords : OperatingDays → CarbonUnits → CarbonUnits → Reader Summary
+unfoldable pub summarizedRecords : YearDays → CarbonUnits → CarbonUnits → Reader Summary
 summarizedRecords days project belt = do
   grams ← summedActivities
   give (record { days = days; project = project; belt = belt; activity = grams })
 
-unfoldable pub summarizedTables : (ℕ → ℕ → ℕ) → OperatingDays → ℕ → ℕ → Reader Summary
-summarizedTables factor days projectTotal beltTotal = do
-  p ← monitoredTable factor CP projectTotal
-  b ← monitoredTable factor CD beltTotal
+unfoldable pub summarizedTables : (ℕ → ℕ → ℕ) → YearDays → ℕ → ℕ → Reader Summary
+summarizedTables factor days start beltstart = do
+  p ← monitoredTable factor CP start
+  b ← monitoredTable factor CD beltstart
   summarizedRecords days p b
 
 abbrev pub yearSays : List ℕ → YearAnswer → Judged Summary
@@ -84,5 +84,5 @@ tablesInside s (YearAnswer.Refused n) = Unit {0}
 
 -- a year was left, and its days are days of a year
 abbrev pub yearFits : ℕ → YearAnswer → Type 0
-yearFits left (YearAnswer.Read days project belt activity next) = (1 ≤ left) × DaysOf (days .days) (days .yeardays)
+yearFits left (YearAnswer.Read days project belt activity next) = (1 ≤ left) × DaysOf days
 yearFits left (YearAnswer.Refused n) = Unit {0}

@@ -2,6 +2,7 @@
 use classes::AreaUnits;
 use classes::CarbonUnits;
 use classes::Grams;
+use figures::YearDays;
 ghost use mathlib.Core.Path.{_≡_};
 ghost use Prim.Native.Nat.{_≤_, _<_};
 ghost use lib.ListN.{length, drop};
@@ -26,15 +27,9 @@ enum TableAnswer {
     Refused(u8),
 }
 
-// The days of operation of a year, and the days of the calendar year: d and D of the reference level.
-pub struct OperatingDays {
-    pub days: u64,
-    pub yeardays: u64,
-}
-
 pub enum YearAnswer {
     Read {
-        days: OperatingDays,
+        days: YearDays,
         project: CarbonUnits,
         belt: CarbonUnits,
         activity: Grams,
@@ -79,7 +74,7 @@ fn read_table(s: &[u8], at: usize, m: u64, total: AreaUnits, factors: &[u64; 144
 fn read_tables(
     s: &[u8],
     at: usize,
-    days: OperatingDays,
+    days: YearDays,
     project: AreaUnits,
     belt: AreaUnits,
     factors: &[u64; 144],
@@ -105,7 +100,7 @@ fn read_tables(
 fn read_records(
     s: &[u8],
     at: usize,
-    days: OperatingDays,
+    days: YearDays,
     project: CarbonUnits,
     belt: CarbonUnits,
 ) -> YearAnswer
@@ -185,11 +180,14 @@ pub fn read_year(
     if wire::field16(s, at + 2) != year {
         return YearAnswer::Refused(6);
     }
-    let days = wire::field16(s, at + 4);
-    let yeardays = classes::days_in_year(year);
-    if cursor::outside(days, 1, yeardays) {
+    let operating = wire::field16(s, at + 4);
+    let calendar = classes::days_in_year(year);
+    if cursor::outside(operating, 1, calendar) {
         return YearAnswer::Refused(6);
     }
-    let operating = OperatingDays { days, yeardays };
-    read_tables(s, at + 6, operating, project, belt, factors)
+    let days = YearDays {
+        operating,
+        calendar,
+    };
+    read_tables(s, at + 6, days, project, belt, factors)
 }

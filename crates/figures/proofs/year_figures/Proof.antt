@@ -30,10 +30,10 @@ small : (c : tie.After-reference-level2)
     × (mag (c .before .stock-change-emissions2 .result .0) ≤ greatestEmissions) × (mag (c .reference-level2 .result .0) ≤ greatestEmissions)
 small c =
     let ((project, belt, activity), days) = at-start c .pre in (
-      rw (at-reference c .reference-level .ensures) (reference-small (project .0) days),
+      rw (at-reference c .reference-level .ensures) (reference-small (project .0) (at-start c .args .days) days),
       rw (at-emitted c .stock-change-emissions .ensures) (emissions-small (project .1)),
       rw (c .before .stock-change-emissions2 .ensures) (emissions-small (belt .1)),
-      rw (c .reference-level2 .ensures) (reference-small (belt .0) days),
+      rw (c .reference-level2 .ensures) (reference-small (belt .0) (at-start c .args .days) days),
     )
 
 -- the code's names, after the call of displaced_emissions, and their differences one after the other
@@ -114,7 +114,7 @@ returns c =
     let a = at-start belt .args in
     all-figures
     {b = pos (stockChangeEmissions (a .belt .monitored .0))}
-    {k = pos (referenceLevel (a .belt .projected .0) (a .days) (a .yeardays))}
+    {k = pos (referenceLevel (a .belt .projected .0) (a .days .operating) (a .days .calendar))}
     (at-reference belt .reference-level .ensures)
     (at-emitted belt .stock-change-emissions .ensures)
     (belt .before .stock-change-emissions2 .ensures)

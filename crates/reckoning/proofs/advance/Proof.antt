@@ -34,7 +34,7 @@ record Asked (c : tie.Start) : Type 0 where
   belt : SmallCarbon (c .args .belt .0)
   activity : mag (c .args .activity .0) ≤ greatestActivity
   left : 1 ≤ c .args .state .left
-  days : DaysOf (c .args .days .days) (c .args .days .yeardays)
+  days : DaysOf (c .args .days)
 
 asked : (c : tie.Start) → Asked c
 asked c =

@@ -2,8 +2,9 @@
 -- Assumes nothing.
 use mathlib.Core.Path.{_∙_, refl, sym}
 use borrow.Author.Needs.{needs}
+use Rattle.figures.proofs.FiguresLaws.{calendar-days}
 use Rattle.dossier.proofs.ReaderLaws.{not-outside}
-use Rattle.years.proofs.YearLaws.{year-none, year-no, year-other, days-wrong, days-right, fits, days-of}
+use Rattle.years.proofs.YearLaws.{year-none, year-no, year-other, days-wrong, days-right, fits}
 use Rattle.years.proofs.read_year.Statement.{statement}
 use Rattle.years.proofs.read_year.Tie as tie
 
@@ -93,7 +94,7 @@ returns-5 c =
     let inside = not-outside _ _ _ (sym (at-outside .outside .ensures) ∙ c .before .if4 .left) in
     let (tables, fitting) = c .read-tables .ensures in (
       tables ∙ right refl _ most _ (at-outside .outside .ensures) (c .before .if4 .left),
-      (fitting, fits _ (at-start begun .args .s .now) (c .read-tables .result) _ _ _ _ _ tables some (days-of _ _ _ most (inside .most))),
+      (fitting, fits _ (at-start begun .args .s .now) (c .read-tables .result) _ _ _ _ _ tables some (calendar-days _ _ most (inside .most))),
     )
 
 pub read-year-spec : {M : Type 1} → statement M
