@@ -34,7 +34,9 @@ pub record Tables (t : Terms) (factors counted : List ℕ) : Type 0 where
   pub of-factors : factors ≡ tableOf (emissionFactor (t .stocks))
   pub of-counted : counted ≡ tableOf (countedFactor (t .option) (emissionFactor (t .stocks)))
 
-pub tables : (t : Terms) {factors counted : List ℕ} → (factors ≡ tableOf (emissionFactor (t .stocks))) × (counted ≡ tableOf (countedFactor (t .option) (emissionFactor (t .stocks)))) → Tables t factors counted
+pub tables : (t : Terms) {factors counted : List ℕ}
+    → (factors ≡ tableOf (emissionFactor (t .stocks))) × (counted ≡ tableOf (countedFactor (t .option) (emissionFactor (t .stocks))))
+    → Tables t factors counted
 tables t w = record { of-factors = w .0; of-counted = w .1 }
 
 -- they fit 16 bits, as the stocks do

@@ -43,7 +43,8 @@ loop-holds c = let (inside, used) = at-start c .pre in none-yet _ _ _ _ used ins
 
 step-requires : tie.Need-step-requires Inv-loop μ-loop
 step-requires c κs =
-    let at-loop = c .before .before .before .before .before .before in
+    let at-state = c .before .before .before .before in
+    let at-loop = at-state .before .before in
     let t = at-tables at-loop in
     let f = at-loop .loop .inv in
     let kept = rw (f .terms) at (f .kept) in

@@ -76,8 +76,9 @@ returns c =
     let at-end = c .before .before in
     let at-next = at-end .before .before in
     let at-years = at-next .before .before .before in
-    let fault = years-fault _ _ _ (at-years .before .new-ledger .ensures) _ _ _ (at-years .give-years .ensures .0) _ (at-next .answer4 .given .1) _ (at-end .read-end .ensures) (c .before .if1 .taken) in
-    refused-handed _ _ _ (c .refused-opening3 .ensures) (as-dossier (at-years .before) _ fault)
+    let at-new = at-years .before in
+    let fault = years-fault _ _ _ (at-new .new-ledger .ensures) _ _ _ (at-years .give-years .ensures .0) _ (at-next .answer4 .given .1) _ (at-end .read-end .ensures) (c .before .if1 .taken) in
+    refused-handed _ _ _ (c .refused-opening3 .ensures) (as-dossier at-new _ fault)
 
 returns-2 : tie.Need-returns-2
 returns-2 c =
@@ -89,15 +90,18 @@ returns-3 : tie.Need-returns-3
 returns-3 c =
     let at-no = c .before .before in
     let at-years = at-no .before .before .before in
-    refused-handed _ _ _ (c .refused-opening2 .ensures) (as-dossier (at-years .before) _ (years-no _ _ _ (at-years .before .new-ledger .ensures) _ _ _ (at-years .give-years .ensures .0) _ (at-no .answer3 .given .1)))
+    let at-new = at-years .before in
+    let fault = years-no _ _ _ (at-new .new-ledger .ensures) _ _ _ (at-years .give-years .ensures .0) _ (at-no .answer3 .given .1) in
+    refused-handed _ _ _ (c .refused-opening2 .ensures) (as-dossier at-new _ fault)
 
 returns-4 : tie.Need-returns-4
 returns-4 c =
     let at-end = c .before in
     let at-next = at-end .before .before in
     let at-years = at-next .before .before .before in
-    let taken = years-yes _ _ _ (at-years .before .new-ledger .ensures) _ _ _ (at-years .give-years .ensures .0) _ (at-next .answer4 .given .1) _ (at-end .read-end .ensures) (c .if1 .left) in
-    dossier-handed _ (lent (at-opening (at-answer (at-years .before)))) _ (as-dossier (at-years .before) _ taken)
+    let at-new = at-years .before in
+    let taken = years-yes _ _ _ (at-new .new-ledger .ensures) _ _ _ (at-years .give-years .ensures .0) _ (at-next .answer4 .given .1) _ (at-end .read-end .ensures) (c .if1 .left) in
+    dossier-handed _ (lent (at-opening (at-answer at-new))) _ (as-dossier at-new _ taken)
 
 pub of-dossier-spec : {M : Type 1} → statement M
 of-dossier-spec =
