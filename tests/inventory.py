@@ -5,7 +5,7 @@
     python3 tests/inventory.py --renew    writes tests/inventory.txt from the tree; do so with each change that means to add or drop
 
 A line is one must-fail edit, one section of vectors or calls with its count, one example dossier, one stored input or output
-of a program with its bytes and the beginning of its SHA-256, or one step of tests/run.
+of a program, now or in an earlier version, with its bytes and the beginning of its SHA-256, or one step of tests/run.
 """
 import hashlib
 import pathlib
@@ -13,7 +13,7 @@ import re
 import sys
 
 ROOT = pathlib.Path(__file__).resolve().parents[1]
-STORED = ROOT / "tests" / "inventory.txt"
+LISTED = ROOT / "tests" / "inventory.txt"
 sys.path.insert(0, str(ROOT / "tests" / "independent"))
 import vectors  # noqa: E402
 
@@ -46,13 +46,17 @@ def programs():
     return lines
 
 
+def stored():
+    return [f"stored {path.name} {digest(path)}" for path in ROOT.glob("tests/stored/*.xz")]
+
+
 def steps():
     found = re.search(r'^steps="(.*)"$', (ROOT / "tests" / "run").read_text(), re.MULTILINE)
     return [f"step {step}" for step in found[1].split()] if found else []
 
 
 def tree():
-    return sorted(edits()) + sections() + sorted(examples()) + sorted(programs()) + steps()
+    return sorted(edits()) + sections() + sorted(examples()) + sorted(programs()) + sorted(stored()) + steps()
 
 
 def counts(lines):
@@ -68,11 +72,11 @@ def main():
         sys.exit(__doc__)
     lines = tree()
     if "--renew" in sys.argv:
-        STORED.write_text("".join(line + "\n" for line in lines))
+        LISTED.write_text("".join(line + "\n" for line in lines))
         return
-    stored = STORED.read_text().splitlines()
-    gone, more = [line for line in stored if line not in lines], [line for line in lines if line not in stored]
-    if gone or more or len(stored) != len(lines):
+    listed = LISTED.read_text().splitlines()
+    gone, more = [line for line in listed if line not in lines], [line for line in lines if line not in listed]
+    if gone or more or len(listed) != len(lines):
         sys.exit("\n".join(["the tree is not what tests/inventory.txt lists:", *(f"- {line}" for line in gone), *(f"+ {line}" for line in more),
                             "if that is meant: python3 tests/inventory.py --renew"]))
     found = counts(lines)

@@ -3,7 +3,7 @@
 
     python3 tests/independent/vectors.py            writes stdin and stdout of crates/vectors and crates/ledgertrace
     python3 tests/independent/vectors.py --check    fails where a stored file is another
-    python3 tests/independent/vectors.py --library LIBRARY    tries the stored vectors of crates/vectors on the call for C
+    python3 tests/independent/vectors.py --library LIBRARY CALL    tries the stored vectors of crates/vectors on a call in C
 
 A vector is a label, a dossier and the length of a buffer filled with 165. Each states here its number, and the figures that tell.
 """
@@ -636,9 +636,9 @@ def call_files():
     return data + lent(b"Y", encode(base()))[:-1], text.encode()
 
 
-def stored_vectors():
-    """The vectors of crates/vectors/stdin, each with its line of stdout."""
-    data, at, lines = (ROOT / "crates/vectors/stdin").read_bytes(), 0, (ROOT / "crates/vectors/stdout").read_text().splitlines()
+def stored_vectors(data, lines):
+    """The vectors that the program vectors reads, each with its line of those that it writes."""
+    at = 0
 
     def length():
         nonlocal at
@@ -653,27 +653,28 @@ def stored_vectors():
 
     for due in lines:
         yield piece().decode("ascii"), piece(), length(), due
-    require(at == len(data), "crates/vectors/stdout has not a line for each vector")
+    require(at == len(data), "there is not a line for each vector")
 
 
-def try_library(path):
-    """Each stored vector by the call for C: the line due, and after a refusal the buffer as it was."""
-    call, tried = ctypes.CDLL(path).kh_am004_reckon, 0
+def try_library(path, name):
+    """Each stored vector by a call in C: the line due, and after a refusal the buffer as it was."""
+    call, tried = getattr(ctypes.CDLL(path), name), 0
     call.argtypes, call.restype = (ctypes.c_char_p, ctypes.c_size_t, ctypes.c_char_p, ctypes.c_size_t), ctypes.c_uint32
-    for label, dossier, room, due in stored_vectors():
+    data, lines = (ROOT / "crates/vectors/stdin").read_bytes(), (ROOT / "crates/vectors/stdout").read_text().splitlines()
+    for label, dossier, room, due in stored_vectors(data, lines):
         old = bytes([165] * (room + 8))
         buffer = ctypes.create_string_buffer(old, len(old))
         number = call(dossier, len(dossier), buffer, room)
         words = struct.unpack_from(f">{room // 8}q", buffer.raw) if number == 0 else ()
-        require(" ".join(map(str, (label, number, *words))) == due, f"{label}: the call for C answers {number}, or other figures, where '{due[:80]}' is due")
-        require(buffer.raw[0 if number else room:] == old[0 if number else room:], f"{label}: the call for C changed bytes that it should leave")
+        require(" ".join(map(str, (label, number, *words))) == due, f"{label}: {name} of {path} answers {number}, or other figures, where '{due[:80]}' is due")
+        require(buffer.raw[0 if number else room:] == old[0 if number else room:], f"{label}: {name} of {path} changed bytes that it should leave")
         tried += 1
-    print(f"the call for C answers each of the {tried} stored vectors as is due")
+    print(f"{name} of {path} answers each of the {tried} stored vectors as is due")
 
 
 def main():
-    if sys.argv[1:2] == ["--library"] and len(sys.argv) == 3:
-        return try_library(sys.argv[2])
+    if sys.argv[1:2] == ["--library"] and len(sys.argv) == 4:
+        return try_library(*sys.argv[2:])
     if sys.argv[1:] not in ([], ["--check"]):
         sys.exit(__doc__)
     for name, contents in (("vectors", vector_files()), ("ledgertrace", call_files())):

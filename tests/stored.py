@@ -1,0 +1,90 @@
+#!/usr/bin/env python3
+"""Asks this version what earlier ones were asked: each answer is the one of then, save what requests have changed since.
+
+    python3 tests/stored.py           runs target/bin/vectors and target/bin/ledgertrace
+    python3 tests/stored.py --keep    stores what this version answers: to be run before a change of the reckoning
+
+tests/stored has what both programs of an earlier version read and wrote; its example dossiers are the last of the vectors.
+"""
+import lzma
+import pathlib
+import re
+import struct
+import subprocess
+import sys
+
+ROOT = pathlib.Path(__file__).resolve().parents[1]
+FOLDER = ROOT / "tests" / "stored"
+sys.path.insert(0, str(ROOT / "tests" / "independent"))
+import vectors  # noqa: E402
+
+
+# The version that brought a change of reports, and how a report of before becomes one of that version.
+CHANGES = ()
+
+
+def due_now(version, words, numbers):
+    """A line of then: its words, and of an accepted closing or dossier the report's numbers."""
+    for since, change in CHANGES:
+        if numbers and version < since:
+            numbers = change(numbers)
+    return " ".join(map(str, (*words, *numbers)))
+
+
+def vector_lines(version, data, lines):
+    for label, dossier, _, line in vectors.stored_vectors(data, lines):
+        number, *words = map(int, line[len(label):].split())
+        size = 8 * dossier[5] + 4 if number == 0 else 0  # dossier[5] is HD's n
+        yield " ".join(map(str, (due_now(version, (label, number), words[:size]), *words[size:])))
+
+
+def call_lines(version, data, lines):
+    for line in lines:
+        word, number, *numbers = line.split()
+        yield due_now(version, (word, number), list(map(int, numbers)))
+
+
+def written(program, data):
+    return subprocess.run([ROOT / "target" / "bin" / program], input=data, stdout=subprocess.PIPE, timeout=60, check=True).stdout
+
+
+def keep():
+    header = (ROOT / "include" / "kh_am004.h").read_text()
+    version = ".".join(re.search(rf"KH_AM004_VERSION_{part} (\d+)", header)[1] for part in ("MAJOR", "MINOR"))
+    examples = (vectors.sized(f"example {path.name}".encode()) + vectors.sized(path.read_bytes()) + struct.pack(">I", 1312)
+                for path in sorted((ROOT / "examples").glob("*.dossier")))
+    for program, more in (("vectors", b"".join(examples)), ("ledgertrace", b"")):
+        data = (ROOT / "crates" / program / "stdin").read_bytes() + more
+        for stream, content in (("stdin", data), ("stdout", written(program, data))):
+            (FOLDER / f"{program}-{version}.{stream}.xz").write_bytes(lzma.compress(content, preset=9 | lzma.PRESET_EXTREME))
+
+
+def ask(path):
+    program, *version = re.fullmatch(r"(\w+)-(\d+)\.(\d+)\.stdin\.xz", path.name).groups()
+    data = lzma.decompress(path.read_bytes())
+    then = lzma.decompress(path.with_name(path.name.replace("stdin", "stdout")).read_bytes()).decode().splitlines()
+    lines = {"vectors": vector_lines, "ledgertrace": call_lines}[program]
+    due, now = list(lines(tuple(map(int, version)), data, then)), written(program, data).decode().splitlines()
+    for before, wanted, found in zip(then, due, now):
+        if wanted != found:
+            sys.exit(f"{path.name}: '{found[:200]}' where '{wanted[:200]}' is due, and was '{before[:200]}'")
+    if len(now) != len(due):
+        sys.exit(f"{path.name}: {len(now)} lines where {len(due)} are due")
+    changed = sum(map(str.__ne__, then, due))
+    print(f"{program}, version {'.'.join(version)}: {len(due)} answers, {changed} of them changed as requests say, the others as then")
+
+
+def main():
+    if sys.argv[1:] == ["--keep"]:
+        return keep()
+    if sys.argv[1:]:
+        sys.exit(__doc__)
+    stored = sorted(FOLDER.glob("*.stdin.xz"))
+    for path in stored:
+        ask(path)
+    if not stored:
+        sys.exit("tests/stored has no answers of an earlier version")
+
+
+if __name__ == "__main__":
+    main()
