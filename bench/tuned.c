@@ -1,6 +1,6 @@
 /* The yardstick of the benchmark: the same steps as tests/plain.c, written for speed. Loads and stores are byte-swapped
  * words; no product and no division is wider than 64 bits; a table is weighed as it is read, a row of twelve at a time,
- * tested once for each row; no table is copied. It is not proved: tests/compare.c compares it as it does the plain one. */
+ * tested once for each row; no table is copied. It is not proved: tests/run compares it as it does the plain one. */
 #include "plain.h"
 #include <string.h>
 
@@ -228,7 +228,7 @@ uint32_t plain_reckon(const uint8_t *dossier, size_t dossier_len, uint8_t *resul
         f[4] = (int64_t)reference(project(area[1], &balance[1], matrix, factors), d, leap);
         f[5] = f[3] > f[4] ? f[3] - f[4] : 0;
         f[6] = f[0] - f[1] - f[2] - f[5];
-        f[7] = f[6] >= 0 ? f[6] * 4 / 5 : -((-f[6] * 4 + 4) / 5);
+        f[7] = f[6] < 0 ? f[6] : f[6] * 4 / 5;
         total += f[7];
     }
     size_t left = (size_t)(end - s);

@@ -22,18 +22,31 @@ def conversions(*cells):
     return words(table)
 
 
-def case_a():
-    """Document 01's case A: Option 1, 2020, one year, 100 ha of E of which one turns into non-forest, 100 kg of diesel."""
+def evergreen(*years):
+    """Option 1 from 2020 on, 100 ha of E and no belt; each year has its days, the units of E that turn into non-forest, and its records."""
     return b"".join((
-        b"HD" + struct.pack(">BHB", 1, 2020, 1),
+        b"HD" + struct.pack(">BHB", 1, 2020, len(years)),
         b"PA" + areas(E=100_000_000),
         b"DA" + areas(),
-        b"YR" + struct.pack(">HH", 2020, 366),
-        b"CP" + conversions(("E", "E", 99_000_000), ("E", "NF", 1_000_000)),
-        b"CD" + conversions(),
-        b"FU" + struct.pack(">BQ", 1, 100_000),
+        *(b"YR" + struct.pack(">HH", 2020 + y, days)
+          + b"CP" + conversions(("E", "E", 100_000_000 - lost), ("E", "NF", lost))
+          + b"CD" + conversions() + records
+          for y, (days, lost, records) in enumerate(years)),
         b"EN",
     ))
+
+
+CASE_A = 366, 1_000_000, b"FU" + struct.pack(">BQ", 1, 100_000)
+
+
+def case_a():
+    """Document 01's case A: one year, in which one ha turns into non-forest, and 100 kg of diesel."""
+    return evergreen(CASE_A)
+
+
+def bad_year():
+    """Case A's year and one more, in which 3 ha turn into non-forest: its reduction is negative, and deducted whole."""
+    return evergreen(CASE_A, (365, 3_000_000, b""))
 
 
 def twenty_years():
@@ -77,6 +90,7 @@ def refusals():
 if __name__ == "__main__":
     folder = pathlib.Path(sys.argv[1]) if len(sys.argv) > 1 else pathlib.Path(__file__).parent
     (folder / "case-a.dossier").write_bytes(case_a())
+    (folder / "bad-year.dossier").write_bytes(bad_year())
     (folder / "twenty-years.dossier").write_bytes(twenty_years())
     for number, data in refusals().items():
         (folder / f"refused-{number}.dossier").write_bytes(data)

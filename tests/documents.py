@@ -152,11 +152,11 @@ def promises():
 # Numbers that the documents state
 
 def counted():
-    """Numbers of edits, vectors, calls and dossiers, wherever a document states them."""
+    """Numbers of edits, vectors, calls and dossiers, wherever a document states them, save those that tell of earlier versions."""
     counts = inventory.counts(inventory.tree())
     stated = {"(?:must-fail )?edits": counts["must-fail"], "(?:stored )?vectors": counts["vectors"], "dossiers for `crates/vectors`": counts["vectors"],
               "(?:stored|ledger) calls": counts["calls"], "calls for `crates/ledgertrace`": counts["calls"], "example dossiers": counts["example"]}
-    for document in DOCUMENTS[:1] + DOCUMENTS[2:]:
+    for document in (document for document in DOCUMENTS if document.name != "CHANGELOG.md" and document.parent.name != "changes"):
         for what, due in stated.items():
             for number, said in re.findall(rf"\b(\d[\d,]*) ({what})", document.read_text()):
                 if plain(number) != due:
@@ -244,10 +244,13 @@ def method():
     for n, m, grams, tonnes in bounds:
         ledger = reckoner.Ledger()
         ledger.years, ledger.records = [()] * int(n), plain(m)
-        due = Fraction(ledger.bound(), 5)
+        due = Fraction(ledger.bound())
         same(f"the bound of {n} years", Fraction(grams.replace(",", "")), due)
         same(f"the bound of {n} years in tonnes", Fraction(tonnes), Fraction(math.ceil(due / 10**4), 100))
-    same("the bound's formula", "261,576 × n × (n + 1) + 21 × n + 4 × m" in text, True)
+    for other in (document, ROOT / "docs" / "PROMISES.md"):
+        formulas = set(re.findall(r"\d+,\d+ × n × \(n \+ 1\)[^,.|]*? m\b", other.read_text()))
+        same(f"the bound's formula in {other.name}", formulas, {"65,394 × n × (n + 1) + 5 × n + m"})
+    same("the longest dossier's bound", f"less than {math.ceil(due / 10**6)} t to rounding" in text, True)
     steps = {cells[0]: tuple(cells[3:]) for cells in sixes if cells[0] in EQUATIONS}
     same("the equations", steps, EQUATIONS)
     _, ledger = reckoner.reckon(dossiers.encode(dossiers.case_a()), bytearray(96))
@@ -255,6 +258,10 @@ def method():
     worked = {cells[0].split(":")[0]: plain(cells[1]) for cells in rows(text, 2) if cells[1].replace(",", "").isdigit()}
     same("case A", worked, {"reference": reference, "project": project, "activity": activity, "displaced": displaced, "reduction": reduction,
                             "credited, and total": credited})
+    _, ledger = reckoner.reckon((ROOT / "examples" / "bad-year.dossier").read_bytes(), bytearray(160))
+    reference, project, *_, reduction, _ = ledger.years[1]
+    for figure in [f"{grams:,} g" for grams in (reference, project, reduction, ledger.total)] + [f"{ledger.numbers()[-3]} tonnes"]:
+        same(f"{figure} of the bad year", figure.replace("-", "−") in text, True)
 
 
 def main():

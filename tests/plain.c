@@ -1,4 +1,5 @@
-/* A plain reckoner in C by document 01's steps. It is not proved: the tests compare with it, in bytes and in time. */
+/* A plain reckoner in C by the steps of document 01 and the requests of document 02. It is not proved: the tests compare
+ * with it, in bytes and in time. */
 #include "plain.h"
 #include <string.h>
 
@@ -186,7 +187,7 @@ uint32_t plain_reckon(const uint8_t *dossier, size_t dossier_len, uint8_t *resul
         f[2] = (int64_t)grams;
         f[5] = f[3] > f[4] ? f[3] - f[4] : 0;
         f[6] = f[0] - f[1] - f[2] - f[5];
-        f[7] = f[6] >= 0 ? f[6] * 4 / 5 : -((-f[6] * 4 + 4) / 5);
+        f[7] = f[6] < 0 ? f[6] : f[6] * 4 / 5;
         total += f[7];
     }
     if (stands(&in, "YR"))

@@ -19,8 +19,18 @@ sys.path.insert(0, str(ROOT / "tests" / "independent"))
 import vectors  # noqa: E402
 
 
+def bad_years_whole(report):
+    """#101: a negative reduction is credited whole."""
+    *figures, _, _, balance, belt_balance = report
+    for reduction in range(6, len(figures), 8):
+        if figures[reduction] < 0:
+            figures[reduction + 1] = figures[reduction]
+    total = sum(figures[7::8])
+    return [*figures, total, max(total, 0) // 1000000, balance, belt_balance]
+
+
 # The version that brought a change of reports, and how a report of before becomes one of that version.
-CHANGES = ()
+CHANGES = (((2, 0), bad_years_whole),)
 
 
 def due_now(version, words, numbers):

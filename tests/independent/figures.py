@@ -1,5 +1,6 @@
 #!/usr/bin/env python3
-"""Makes what the test of the C header reads: the longest dossier, no two numbers of whose report are alike, and those numbers.
+"""Makes what the test of the C header reads: the longest dossier, no two numbers of whose report are alike save the reduction
+and the credit of a bad year, and those numbers.
 
     python3 tests/independent/figures.py FOLDER     writes FOLDER/figures.dossier and FOLDER/figures.txt
 
@@ -28,10 +29,9 @@ def twenty_years(rng):
 
 
 def tells_apart(ledger):
-    """Whether no two numbers are alike, none is 0, and there are years of either sign, with a total above 0."""
-    numbers = ledger.numbers()
-    signs = {figures[-1] > 0 for figures in ledger.years}
-    return len(set(numbers)) == len(numbers) and 0 not in numbers and signs == {True, False} and ledger.total > 0
+    """Whether no two numbers are alike but where a bad year is credited whole, none is 0, and there are years of either sign, with a total above 0."""
+    numbers, bad = ledger.numbers(), sum(figures[-1] < 0 for figures in ledger.years)
+    return len(set(numbers)) == len(numbers) - bad and 0 not in numbers and 0 < bad < len(ledger.years) and ledger.total > 0
 
 
 def main():

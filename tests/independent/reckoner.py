@@ -1,8 +1,8 @@
 #!/usr/bin/env python3
-"""A reckoner written from document 01 alone, with whole numbers and fractions: what the proved one is compared with.
+"""A reckoner written from document 01 and the requests of document 02 alone, with whole numbers and fractions: what the proved one is compared with.
 
     python3 tests/independent/reckoner.py < DOSSIER            prints the sheet, and checks demand 3 of it
-    python3 tests/independent/reckoner.py --gap < DOSSIER      prints the total, the unrounded one, five times the gap and its bound
+    python3 tests/independent/reckoner.py --gap < DOSSIER      prints the total, the unrounded one, the gap and its bound
 """
 import sys
 from fractions import Fraction
@@ -101,6 +101,11 @@ def up(x):
     return -((-x.numerator) // x.denominator)
 
 
+def discounted(reduction):
+    """By 20 percent; a negative one whole (#101)."""
+    return reduction * Fraction(4, 5) if reduction >= 0 else reduction
+
+
 class Region:
     def __init__(self, areas=None):
         areas = areas or [0] * 12
@@ -171,23 +176,23 @@ class Ledger:
         grams = sum(map(up, records))
         displaced = max(belt_emitted - belt_reference, 0)
         reduction = reference - emitted - grams - displaced
-        credited = down(Fraction(4 * reduction, 5))
+        credited = down(discounted(reduction))
         self.years.append((reference, emitted, grams, belt_emitted, belt_reference, displaced, reduction, credited))
         self.total += credited
         exact = carbon_exact * share - project - sum(records) - max(belt - belt_exact * share, 0)
-        self.exact += exact * Fraction(4, 5)
+        self.exact += discounted(exact)
         self.records += len(records)
         self.check()
 
     def bound(self):
-        """What five times the gap stays below."""
+        """What the gap stays below."""
         y = len(self.years)
-        return 261576 * y * (y + 1) + 21 * y + 4 * self.records
+        return 65394 * y * (y + 1) + 5 * y + self.records
 
     def check(self):
         """Demand 3, as far as it stands after the years so far."""
         demand(self.total <= self.exact, "no more than the unrounded total is reported")
-        demand(5 * (self.exact - self.total) < self.bound(), "the gap stays below its bound")
+        demand(self.exact - self.total < self.bound(), "the gap stays below its bound")
         for region in (self.project, self.belt):
             demand(sum(region.areas.values()) + region.balance == region.start, "areas and balance make up the starting area")
             demand(region.balance <= 132 * len(self.years), "the balance is at most 132 a year")
@@ -258,7 +263,7 @@ def gap(dossier):
     number, ledger = reckon(dossier, bytearray(1312))
     if number:
         return f"refused {number}\n"
-    return f"total {ledger.total} unrounded {ledger.exact} five times the gap {5 * (ledger.exact - ledger.total)} bound {ledger.bound()}\n"
+    return f"total {ledger.total} unrounded {ledger.exact} gap {ledger.exact - ledger.total} bound {ledger.bound()}\n"
 
 
 if __name__ == "__main__":

@@ -10,8 +10,8 @@ import reckoner
 from dossiers import case_a, encode, pieces
 
 LITTLE = Fraction(1, 10**30)
-# years, activity records, and what five times the gap stays below: 261,576 n (n + 1) + 21 n + 4 m, worked out by hand
-BOUNDS = ((0, 0, 0), (1, 0, 523173), (1, 60, 523413), (2, 3, 1569510), (20, 0, 109862340), (20, 1200, 109867140))
+# years, activity records, and what the gap stays below: 65,394 n (n + 1) + 5 n + m, worked out by hand
+BOUNDS = ((0, 0, 0), (1, 0, 130793), (1, 60, 130853), (2, 3, 392377), (20, 0, 27465580), (20, 1200, 27466780))
 
 
 def holds(ledger):
@@ -40,8 +40,8 @@ def test_totals():
     for years, records, bound in BOUNDS[1:]:
         ledger = ledger_of(years, records)
         for gap, due, what in ((Fraction(0), True, "the gap is 0"), (-LITTLE, False, "more than the unrounded total is reported"),
-                               (Fraction(bound, 5) - LITTLE, True, f"the gap is just below its bound, {years} years, {records} records"),
-                               (Fraction(bound, 5), False, f"the gap is its bound, {years} years, {records} records")):
+                               (bound - LITTLE, True, f"the gap is just below its bound, {years} years, {records} records"),
+                               (Fraction(bound), False, f"the gap is its bound, {years} years, {records} records")):
             for total in (0, -7, 10**15):
                 ledger.total, ledger.exact = total, total + gap
                 expect(holds(ledger), due, what)

@@ -11,6 +11,7 @@ import ctypes
 import pathlib
 import struct
 import sys
+from fractions import Fraction
 
 import reckoner
 from compare import closing, lent, trace
@@ -96,15 +97,15 @@ def fault(number, label, records, mark, cells, nth=0):
 
 def examples():
     yield accepted("case A", case_a(), reference=833569000, project=334766667, activity=318630, reduction=498483703, credited=398786962,
-                   total=398786962, tonnes=398, balance=0, belt_balance=0)
+                   total=398786962, tonnes=398, balance=0, belt_balance=0, unrounded=Fraction(1196360888, 3))
     for i, j, factor, grams in (("E", "SE", 0, 0), ("E", "TP", 0, 0), ("MR", "E", 110, 5), ("TP", "NF", 5654, 208)):
         moved = one_year(2, areas(**{i: 1}), areas(), table((i, j, 1)), table())
         yield accepted(f"factor {factor} from {i} to {j}", moved, project=grams)
     yield accepted("diesel 1,000 g", emitting(("FU", [1, 1000])), activity=3187)
     yield accepted("NI 1, 1, 1,000,000, 4,600", emitting(("NI", [1, 1, 1000000, 4600])), activity=2854202)
     yield accepted("limestone 1 g", emitting(("LI", [1, 1])), activity=1)
-    for loss, credited in ((1, -1), (4, -4), (5, -4), (6, -5)):
-        yield accepted(f"reduction -{loss}", emitting(limestone(loss)), reduction=-loss, credited=credited, total=credited, tonnes=0)
+    for loss in (1, 4, 5, 6, 10):
+        yield accepted(f"reduction -{loss}", emitting(limestone(loss)), reduction=-loss, credited=-loss, total=-loss, tonnes=0)
     three = areas(E=3)
     yield accepted("E 3 units", one_year(1, three, areas(), stays(three), table()), reference=0, balance=1)
 
@@ -378,6 +379,29 @@ def roundings():
         yield accepted(f"total {total}", records, reduction=reduction, total=total, tonnes=tonnes)
 
 
+def reduced(*reductions):
+    """Years of such reductions: E and SE change places, so that each year's reference is 160,636,666."""
+    both, changing = areas(E=1000000, SE=1000000), matrix(("E", "SE", 1000000), ("SE", "E", 1000000))
+    records = opening(2, 2019, len(reductions), both, areas(), changing)
+    for number, reduction in enumerate(reductions, 2019):
+        records += year(number, reckoner.days_of(number), stays(both), table(), limestone(160636666 - reduction))
+    return records + [END]
+
+
+def bad_years():
+    """#101: a negative reduction is credited whole, zero and positive ones by four fifths, each year by itself, the unrounded total by the sign of the unrounded reduction."""
+    for reduction, credited in ((-10, -10), (-6, -6), (-5, -5), (-4, -4), (-1, -1), (0, 0), (1, 0), (4, 3), (5, 4)):
+        yield accepted(f"a forest's reduction {reduction}", reduced(reduction), reference=160636666, reduction=reduction, credited=credited, total=credited)
+    yield accepted("a bad year first", reduced(-10, 5), credited=4, total=-6, tonnes=0)
+    yield accepted("a bad year last", reduced(5, -10), credited=-10, total=-6, tonnes=0)
+    yield accepted("a bad year takes a tonne", reduced(10**7, -1), credited=-1, total=7999999, tonnes=7)
+    pair, turned = areas(MR=2), matrix(("MR", "E", 1000000))  # reference 121/15 g
+    for reduction, unrounded, run in ((-1, 0, [("LI", [3, 11])]), (-2, Fraction(44, 15), [("LI", [1, 1])] * 10),
+                                      (-4, Fraction(-253, 75), [("LI", [3, 15]), ("LI", [1, 1])]), (0, Fraction(44, 75), [("LI", [3, 10])])):
+        records = one_year(2, pair, areas(), stays(pair), table(), *run, probabilities=turned)
+        yield accepted(f"reduction {reduction}, unrounded total {unrounded}", records, reduction=reduction, credited=reduction, unrounded=unrounded)
+
+
 def every_class():
     """Amounts that show any other stock or probability."""
     each = [10000 * (k + 1) for k in range(12)]
@@ -592,7 +616,7 @@ def second_years():
 # Writing
 
 VECTORS = (examples, edges, cuts, marks, heads, totals, rows, years, conversions, activities, kinds, sixty, endings, orders, buffers,
-           slips, roundings, every_class, projections, record_ends, calendar, last_marks, full_buffers)
+           slips, roundings, bad_years, every_class, projections, record_ends, calendar, last_marks, full_buffers)
 CALLS = (empty_ledger, refused_openings, case_a_ledger, three_years, opened_again, every_dossier, second_years)
 
 
@@ -602,11 +626,11 @@ def require(holds, what):
 
 
 def line(label, due, data, room, figures):
-    """The vector's line, which has the number and the figures stated of the last year."""
+    """The vector's line, which has the number and the figures stated of the last year; an unrounded total is looked up in the independent reckoner, for no call reports it."""
     buffer = bytearray([165] * room)
     number, ledger = reckoner.reckon(data, buffer)
     require(number == due, f"{label}: {number} where {due} is due")
-    found = dict(zip(FIGURES, ledger.numbers()[-12:]))
+    found = dict(zip(FIGURES, ledger.numbers()[-12:]), unrounded=ledger.exact)
     for name, figure in figures.items():
         require(found[name] == figure, f"{label}: {name} {found[name]} where {figure} is due")
     words = struct.unpack_from(f">{room // 8}q", buffer) if number == 0 else ()

@@ -6,7 +6,7 @@ use native.Mathlib.Omega.{arith}
 use lib.IntN.{ℤ, pos, negsuc, _*ℤ_}
 use Rattle.arithmetic.specs.Rounding.{positivePart}
 use Rattle.arithmetic.specs.Fraction.{Fraction, _≤ᶠ_, _<ᶠ_, _+ᶠ_}
-use Rattle.arithmetic.proofs.IntegerLaws.{above, below, parts-le, parts-lt, add-parts, mul-above, mul-below}
+use Rattle.arithmetic.proofs.IntegerLaws.{above, below, parts-le, parts-lt, le-parts, add-parts, mul-above, mul-below}
 
 -- the two parts of a fraction's numerator
 abbrev pub over : Fraction → ℕ
@@ -22,6 +22,9 @@ crossed x y = (mul-above (x .num) (y .den), mul-below (x .num) (y .den))
 -- the orders, by the parts
 pub parts-≤ᶠ : {x y : Fraction} → over x * y .den + under y * x .den ≤ over y * x .den + under x * y .den → x ≤ᶠ y
 parts-≤ᶠ {x} {y} h = record { cross = parts-le (x .num *ℤ pos (y .den)) (y .num *ℤ pos (x .den)) (omega (arith, h, crossed x y, crossed y x)) }
+
+pub ≤ᶠ-parts : {x y : Fraction} → x ≤ᶠ y → over x * y .den + under y * x .den ≤ over y * x .den + under x * y .den
+≤ᶠ-parts {x} {y} h = omega (arith, le-parts (x .num *ℤ pos (y .den)) (y .num *ℤ pos (x .den)) (h .cross), crossed x y, crossed y x)
 
 pub parts-<ᶠ : {x y : Fraction} → over x * y .den + under y * x .den < over y * x .den + under x * y .den → x <ᶠ y
 parts-<ᶠ {x} {y} h = record { cross = parts-lt (x .num *ℤ pos (y .den)) (y .num *ℤ pos (x .den)) (omega (arith, h, crossed x y, crossed y x)) }

@@ -4,7 +4,7 @@ use mathlib.Core.Path.{_≡_, refl}
 use mathlib.Core.Bool.{Bool, true, false, not, cond}
 use Prim.Native.Nat.{ℕ, zero, suc, _+_, _*_, _-_, _≤_, _<_}
 use native.Mathlib.Omega.{arith}
-use lib.Dec.{T, ltb, le→leb, ltb→lt, lt→ltb, nltb→le}
+use lib.Dec.{T, ltb, leb→le, le→leb, ltb→lt, lt→ltb, nltb→le}
 use lib.IntN.{ℤ, pos, negsuc, subℕ, _+ℤ_, _-ℤ_, _*ℤ_, negℤ}
 use lib.Signed.{_≤ℤ_, _<ℤ_, mag}
 
@@ -28,6 +28,12 @@ parts-lt (pos a) (pos b) h = record { lt = lt→ltb a b (omega arith) }
 parts-lt (pos a) (negsuc b) h = let z : ⊥ = omega arith in absurd z
 parts-lt (negsuc a) (pos b) h = record { lt = tt }
 parts-lt (negsuc a) (negsuc b) h = record { lt = lt→ltb b a (omega arith) }
+
+pub le-parts : (a b : ℤ) → a ≤ℤ b → above a + below b ≤ above b + below a
+le-parts (pos a) (pos b) h = omega (arith, leb→le a b (h .le))
+le-parts (pos a) (negsuc b) h = absurd (h .le)
+le-parts (negsuc a) (pos b) h = omega arith
+le-parts (negsuc a) (negsuc b) h = omega (arith, leb→le b a (h .le))
 
 -- ---- the operations
 sub-parts : (a b : ℕ) → above (subℕ a b) + b ≡ below (subℕ a b) + a

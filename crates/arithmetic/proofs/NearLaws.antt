@@ -1,4 +1,4 @@
--- A fraction near a whole number: at most k below it and at most l above it, in five-hundredths.
+-- A fraction near a whole number: at most k below it and at most l above it, in hundredths.
 -- Assumes nothing.
 use mathlib.Core.Path.{_≡_, sym, ap}
 use Prim.Native.Nat.{ℕ, _+_, _*_, _-_, _≤_, _<_}
@@ -6,23 +6,23 @@ use native.Mathlib.Nat.{mul-le-mul-right, le-of-mul-le-mul-right, mul-lt-mul-of-
 use native.Mathlib.Omega.{arith}
 use lib.IntN.{ℤ, pos, negsuc, _+ℤ_, _-ℤ_, negℤ}
 use Rattle.arithmetic.specs.Rounding.{positivePart}
-use Rattle.arithmetic.specs.Fraction.{Fraction, _≤ᶠ_, _<ᶠ_, whole, _+ᶠ_, _-ᶠ_, negᶠ, _×ᶠ_, ifPositive}
-use Rattle.arithmetic.proofs.IntegerLaws.{above, below, mul-above, mul-below, add-parts, neg-above, neg-below}
+use Rattle.arithmetic.specs.Fraction.{Fraction, _≤ᶠ_, _<ᶠ_, whole, _+ᶠ_, _-ᶠ_, negᶠ, ifPositive}
+use Rattle.arithmetic.proofs.IntegerLaws.{above, below, add-parts, neg-above, neg-below}
 use Rattle.arithmetic.proofs.FractionLaws.{over, under, sum-parts, sum-den, parts-≤ᶠ, parts-<ᶠ, positive-above, positive-below}
 use Rattle.arithmetic.proofs.RatioLaws.{Ratio}
 
 pub record Near (z : ℤ) (x : Fraction) (k l : ℕ) : Type 0 where
-  pub low : 500 * (above z * x .den) + 500 * under x ≤ 500 * over x + (500 * below z + k) * x .den
-  pub high : 500 * (below z * x .den) + 500 * over x ≤ 500 * under x + (500 * above z + l) * x .den
+  pub low : 100 * (above z * x .den) + 100 * under x ≤ 100 * over x + (100 * below z + k) * x .den
+  pub high : 100 * (below z * x .den) + 100 * over x ≤ 100 * under x + (100 * above z + l) * x .den
 
 pub near-wider : {z : ℤ} {x : Fraction} {k k′ l l′ : ℕ} → k ≤ k′ → l ≤ l′ → Near z x k l → Near z x k′ l′
 near-wider {z} {x} {k} {k′} {l} {l′} a b h = record { low = omega (arith, h .low, mul-le-mul-right (x .den) a); high = omega (arith, h .high, mul-le-mul-right (x .den) b) }
 
 -- of a fraction that is a over n
-pub near-ratio : {x : Fraction} {a n : ℕ} (z k l : ℕ) → 0 < n → Ratio x a n → 500 * (z * n) ≤ 500 * a + k * n → 500 * a ≤ (500 * z + l) * n → Near (pos z) x k l
+pub near-ratio : {x : Fraction} {a n : ℕ} (z k l : ℕ) → 0 < n → Ratio x a n → 100 * (z * n) ≤ 100 * a + k * n → 100 * a ≤ (100 * z + l) * n → Near (pos z) x k l
 near-ratio {x} {a} {n} z k l n-pos h low high = record {
-  low = le-of-mul-le-mul-right {k = n} (omega (arith, mul-le-mul-right (x .den) low, ap (λ (s : ℕ). s * 500) (h .equal), ap (λ (s : ℕ). 500 * s * n) (h .sign))) n-pos;
-  high = le-of-mul-le-mul-right {k = n} (omega (arith, mul-le-mul-right (x .den) high, ap (λ (s : ℕ). s * 500) (h .equal), ap (λ (s : ℕ). 500 * s * n) (h .sign))) n-pos;
+  low = le-of-mul-le-mul-right {k = n} (omega (arith, mul-le-mul-right (x .den) low, ap (λ (s : ℕ). s * 100) (h .equal), ap (λ (s : ℕ). 100 * s * n) (h .sign))) n-pos;
+  high = le-of-mul-le-mul-right {k = n} (omega (arith, mul-le-mul-right (x .den) high, ap (λ (s : ℕ). s * 100) (h .equal), ap (λ (s : ℕ). 100 * s * n) (h .sign))) n-pos;
 }
 
 -- ---- the operations
@@ -31,16 +31,16 @@ unfolding negᶠ
 near-neg {z} {x} {k} {l} h = record { low = simp (neg-above, neg-below) (omega (arith, h .high)); high = simp (neg-above, neg-below) (omega (arith, h .low)) }
 
 -- (the facts come in multiplied, so that `omega` reads nothing else)
-sum-multiplied : (p m d p′ m′ d′ s t a b a′ b′ c e k k′ : ℕ) → (s + (m * d′ + m′ * d)) * 500 ≡ (t + (p * d′ + p′ * d)) * 500 → (c + (b + b′)) * (500 * (d * d′)) ≡ (e + (a + a′)) * (500 * (d * d′))
-    → (500 * (a * d) + 500 * m) * d′ ≤ (500 * p + (500 * b + k) * d) * d′ → (500 * (a′ * d′) + 500 * m′) * d ≤ (500 * p′ + (500 * b′ + k′) * d′) * d
-    → 500 * (c * (d * d′)) + 500 * t ≤ 500 * s + (500 * e + (k + k′)) * (d * d′)
+sum-multiplied : (p m d p′ m′ d′ s t a b a′ b′ c e k k′ : ℕ) → (s + (m * d′ + m′ * d)) * 100 ≡ (t + (p * d′ + p′ * d)) * 100 → (c + (b + b′)) * (100 * (d * d′)) ≡ (e + (a + a′)) * (100 * (d * d′))
+    → (100 * (a * d) + 100 * m) * d′ ≤ (100 * p + (100 * b + k) * d) * d′ → (100 * (a′ * d′) + 100 * m′) * d ≤ (100 * p′ + (100 * b′ + k′) * d′) * d
+    → 100 * (c * (d * d′)) + 100 * t ≤ 100 * s + (100 * e + (k + k′)) * (d * d′)
 sum-multiplied p m d p′ m′ d′ s t a b a′ b′ c e k k′ v w h h′ = omega arith
 
 sum-side : (p m d p′ m′ d′ s t a b a′ b′ c e k k′ : ℕ) → s + (m * d′ + m′ * d) ≡ t + (p * d′ + p′ * d) → c + (b + b′) ≡ e + (a + a′)
-    → 500 * (a * d) + 500 * m ≤ 500 * p + (500 * b + k) * d → 500 * (a′ * d′) + 500 * m′ ≤ 500 * p′ + (500 * b′ + k′) * d′
-    → 500 * (c * (d * d′)) + 500 * t ≤ 500 * s + (500 * e + (k + k′)) * (d * d′)
+    → 100 * (a * d) + 100 * m ≤ 100 * p + (100 * b + k) * d → 100 * (a′ * d′) + 100 * m′ ≤ 100 * p′ + (100 * b′ + k′) * d′
+    → 100 * (c * (d * d′)) + 100 * t ≤ 100 * s + (100 * e + (k + k′)) * (d * d′)
 sum-side p m d p′ m′ d′ s t a b a′ b′ c e k k′ v w h h′ =
-    sum-multiplied p m d p′ m′ d′ s t a b a′ b′ c e k k′ (ap (λ (n : ℕ). n * 500) v) (ap (λ (n : ℕ). n * (500 * (d * d′))) w) (mul-le-mul-right d′ h) (mul-le-mul-right d h′)
+    sum-multiplied p m d p′ m′ d′ s t a b a′ b′ c e k k′ (ap (λ (n : ℕ). n * 100) v) (ap (λ (n : ℕ). n * (100 * (d * d′))) w) (mul-le-mul-right d′ h) (mul-le-mul-right d h′)
 
 pub near-sum : {z z′ : ℤ} {x x′ : Fraction} {k k′ l l′ : ℕ} → Near z x k l → Near z′ x′ k′ l′ → Near (z +ℤ z′) (x +ᶠ x′) (k + k′) (l + l′)
 near-sum {z} {z′} {x} {x′} {k} {k′} {l} {l′} h h′ = record {
@@ -60,11 +60,11 @@ pub near-positive : {z : ℤ} {x : Fraction} {k l : ℕ} → Near z x k l → Ne
 unfolding ifPositive
 near-positive {z} {x} {k} {l} h = record { low = simp (positive-above, positive-below) (go-low z (h .low)); high = simp (positive-above, positive-below) (go-high (x .num) (h .high)) }
   where
-    go-low : (y : ℤ) → 500 * (above y * x .den) + 500 * under x ≤ 500 * over x + (500 * below y + k) * x .den → 500 * (above y * x .den) + 500 * 0 ≤ 500 * over x + (500 * 0 + k) * x .den
+    go-low : (y : ℤ) → 100 * (above y * x .den) + 100 * under x ≤ 100 * over x + (100 * below y + k) * x .den → 100 * (above y * x .den) + 100 * 0 ≤ 100 * over x + (100 * 0 + k) * x .den
     go-low (pos n) f = omega arith
     go-low (negsuc n) f = omega arith
 
-    go-high : (y : ℤ) → 500 * (below z * x .den) + 500 * above y ≤ 500 * below y + (500 * above z + l) * x .den → 500 * (0 * x .den) + 500 * above y ≤ 500 * 0 + (500 * above z + l) * x .den
+    go-high : (y : ℤ) → 100 * (below z * x .den) + 100 * above y ≤ 100 * below y + (100 * above z + l) * x .den → 100 * (0 * x .den) + 100 * above y ≤ 100 * 0 + (100 * above z + l) * x .den
     go-high (pos n) f = omega arith
     go-high (negsuc n) f = omega arith
 
@@ -81,9 +81,7 @@ gap-den : (z : ℤ) (x : Fraction) → (x -ᶠ whole z) .den ≡ x .den
 unfolding whole _-ᶠ_ negᶠ _+ᶠ_
 gap-den z x = omega arith
 
--- c times the gap is below b
-pub near-gap : {z : ℤ} {x : Fraction} {l : ℕ} (c b : ℕ) → Near z x 0 l → l * c < 500 * b → (x -ᶠ whole z) ×ᶠ c <ᶠ whole (pos b)
-unfolding whole _×ᶠ_
-near-gap {z} {x} {l} c b h k =
-    let gap = ap (λ (n : ℕ). n * c) (gap-parts z x) in
-    parts-<ᶠ (simp (mul-above, mul-below, gap-den) (omega (arith, gap, mul-le-mul-right c (h .high), mul-lt-mul-of-pos-right k (x .positive))))
+-- the gap is below b
+pub near-gap : {z : ℤ} {x : Fraction} {l : ℕ} (b : ℕ) → Near z x 0 l → l < 100 * b → x -ᶠ whole z <ᶠ whole (pos b)
+unfolding whole
+near-gap {z} {x} {l} b h k = parts-<ᶠ (simp gap-den (omega (arith, gap-parts z x, h .high, mul-lt-mul-of-pos-right k (x .positive))))

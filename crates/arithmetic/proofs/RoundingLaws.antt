@@ -4,10 +4,7 @@ use mathlib.Core.Path.{_≡_, sym}
 use Prim.Native.Nat.{ℕ, _+_, _-_, _*_, _/_, _%_, _≤_, _<_}
 use native.Mathlib.Nat.{div-add-mod', mod-lt, add-mul-div-right, div-eq-of-lt-le, div-mul-le-self, lt-div-mul-add, div-zero, lt-of-mul-lt-mul-right}
 use native.Mathlib.Omega.{arith}
-use lib.IntN.{ℤ, pos, negsuc, _+ℤ_, _*ℤ_}
-use lib.Signed.{_≤ℤ_, _<ℤ_}
-use Rattle.arithmetic.specs.Rounding.{ceilDiv, floorDiv}
-use Rattle.arithmetic.proofs.IntegerLaws.{above, below, parts-le, parts-lt, mul-above, mul-below, add-parts}
+use Rattle.arithmetic.specs.Rounding.{ceilDiv}
 
 -- the least q whose product with d is not below n
 pub ceilDiv-is : (n d : ℕ) → 0 < d → (n ≤ ceilDiv n d * d) × (ceilDiv n d * d < n + d)
@@ -18,33 +15,6 @@ pub ceilDiv-le : (n d q : ℕ) → 0 < d → n ≤ q * d → ceilDiv n d ≤ q
 ceilDiv-le n d q h k =
     let l : ceilDiv n d < q + 1 = lt-of-mul-lt-mul-right d (omega (arith, ceilDiv-is n d h)) in
     omega arith
-
--- the greatest q whose product with d is not above z
-floor-low : (z : ℤ) (d : ℕ) → 0 < d → above (floorDiv z d) * d + below z ≤ above z + below (floorDiv z d) * d
-unfolding floorDiv
-floor-low (pos n) d h = omega (arith, div-mul-le-self n d)
-floor-low (negsuc n) d h = omega (arith, lt-div-mul-add {a = n} h)
-
-floor-high : (z : ℤ) (d : ℕ) → 0 < d → above z + below (floorDiv z d) * d < above (floorDiv z d) * d + below z + d
-unfolding floorDiv
-floor-high (pos n) d h = omega (arith, lt-div-mul-add {a = n} h)
-floor-high (negsuc n) d h = omega (arith, div-mul-le-self n d)
-
-pub record Floor (z q : ℤ) (d : ℕ) : Type 0 where
-  pub low : above q * d + below z ≤ above z + below q * d
-  pub high : above z + below q * d < above q * d + below z + d
-
-pub floorDiv-parts : (z : ℤ) (d : ℕ) → 0 < d → Floor z (floorDiv z d) d
-floorDiv-parts z d h = record { low = floor-low z d h; high = floor-high z d h }
-
-pub floorDiv-is : (z : ℤ) (d : ℕ) → 0 < d → ((floorDiv z d *ℤ pos d) ≤ℤ z) × (z <ℤ (floorDiv z d *ℤ pos d +ℤ pos d))
-floorDiv-is z d h = (
-  parts-le (q *ℤ pos d) z (omega (arith, floor-low z d h, mul-above q d, mul-below q d)),
-  parts-lt z (q *ℤ pos d +ℤ pos d) (omega (arith, floor-high z d h, mul-above q d, mul-below q d, add-parts (q *ℤ pos d) (pos d))),
-)
-  where
-    q : ℤ
-    q = floorDiv z d
 
 -- ---- a quotient's multiple, and the remainder's quotient
 split-parts : (c n m s : ℕ) → c * n + s ≡ c % m * n + s + c / m * n * m

@@ -2,33 +2,20 @@
 -- Assumes nothing.
 use mathlib.Core.Path.{_≡_, refl, _∙_}
 use mathlib.Core.Bool.{true, false}
-use Prim.Native.Nat.{ℕ, _^_, _<_}
+use Prim.Native.Nat.{ℕ}
 use native.Mathlib.Omega.{arith}
 use lib.IntN.{ℤ, pos, negsuc, negℤ, _-ℤ_}
 use lib.Signed.{mag, ltZ}
 use mir.Syntax.{w64}
 use mir.Val.{SFits, toZ, ofZ}
-use mir.Facts.{toZ-ofZ, toZ-pos}
+use mir.Facts.{toZ-ofZ}
 use borrow.Author.Needs.{sfits-of}
 use borrow.Author.Tests.{ltb-true}
 use Rattle.arithmetic.proofs.IntegerLaws.{add-parts, neg-above, neg-below, same-parts}
 
--- -1 - z turns n into -(n + 1), and back
-flipped : (n : ℕ) → negsuc 0 -ℤ pos n ≡ negsuc n
-flipped n = same-parts (negsuc 0 -ℤ pos n) (negsuc n) (omega (arith, add-parts (negsuc 0) (negℤ (pos n)), neg-above (pos n), neg-below (pos n)))
-
-flipped-back : (n : ℕ) → negsuc 0 -ℤ negsuc n ≡ pos n
-flipped-back n = same-parts (negsuc 0 -ℤ negsuc n) (pos n) (omega (arith, add-parts (negsuc 0) (negℤ (negsuc n)), neg-above (negsuc n), neg-below (negsuc n)))
-
-module _ {n : ℕ} (small : n < 2 ^ 63) where
-  flip : negsuc 0 -ℤ toZ w64 n ≡ negsuc n
-  flip = rw (toZ-pos w64 small) (flipped n)
-
-  pub flip-fits : SFits w64 (negsuc 0 -ℤ toZ w64 n)
-  flip-fits = rw flip (sfits-of small)
-
-  pub flip-read : toZ w64 (ofZ w64 (negsuc 0 -ℤ toZ w64 n)) ≡ negsuc n
-  flip-read = toZ-ofZ {w = w64} flip-fits ∙ flip
+-- -1 - z turns -(n + 1) into n
+flipped : (n : ℕ) → negsuc 0 -ℤ negsuc n ≡ pos n
+flipped n = same-parts (negsuc 0 -ℤ negsuc n) (pos n) (omega (arith, add-parts (negsuc 0) (negℤ (negsuc n)), neg-above (negsuc n), neg-below (negsuc n)))
 
 negative : (z : ℤ) → ltZ z (pos 0) ≡ true → z ≡ negsuc (mag z)
 negative (pos n) t = let z : ⊥ = omega (arith, ltb-true n 0 t) in absurd z
@@ -47,7 +34,7 @@ module _ {z : ℤ} (fits : SFits w64 z) where
     below-zero = negative z (rw (toZ-ofZ fits) at t)
 
     flip-below : negsuc 0 -ℤ toZ w64 (ofZ w64 z) ≡ pos (mag z)
-    flip-below = rw (toZ-ofZ fits, below-zero) (flipped-back (mag z))
+    flip-below = rw (toZ-ofZ fits, below-zero) (flipped (mag z))
 
     pub flip-below-fits : SFits w64 (negsuc 0 -ℤ toZ w64 (ofZ w64 z))
     flip-below-fits = rw flip-below (sfits-of (fits .sfits))

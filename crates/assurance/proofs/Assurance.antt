@@ -20,5 +20,5 @@ pub reckoned-assured : (n m projectStart beltStart : ℕ) (r : State) (u : Unrou
 reckoned-assured n m projectStart beltStart r u s = record {
   project = follows-assured n projectStart (r .project) (u .project) (s .project);
   belt = follows-assured n beltStart (r .belt) (u .belt) (s .belt);
-  total = record { never-more = near-≤ᶠ (s .total); gap = λ n-pos. near-gap 5 _ (s .total) (omega arith); none = s .none };
+  total = record { never-more = near-≤ᶠ (s .total); gap = λ n-pos. near-gap _ (s .total) (omega arith); none = s .none };
 }

@@ -1,39 +1,46 @@
--- How far a credit is from its unrounded value.
+-- How far a credit is from its unrounded value, and that a greater unrounded reduction never credits less.
 -- Assumes nothing.
-use Prim.Native.Nat.{ℕ, _+_, _*_, _≤_, _<_}
-use native.Mathlib.Nat.{mul-le-mul-right, zero-lt-suc}
+use Prim.Native.Nat.{ℕ, _+_, _*_, _/_, _≤_}
+use native.Mathlib.Nat.{mul-le-mul-right, div-mul-le-self}
 use native.Mathlib.Omega.{arith}
-use lib.IntN.{ℤ, pos, _*ℤ_}
-use Rattle.arithmetic.specs.Rounding.{floorDiv}
-use Rattle.arithmetic.specs.Fraction.{Fraction, _×ᶠ_, _÷ᶠ_by_}
-use Rattle.arithmetic.proofs.IntegerLaws.{above, below, mul-above, mul-below}
-use Rattle.arithmetic.proofs.FractionLaws.{over, under}
-use Rattle.arithmetic.proofs.RoundingLaws.{Floor, floorDiv-parts}
+use lib.IntN.{ℤ, pos, negsuc}
+use Rattle.arithmetic.specs.Fraction.{Fraction, _≤ᶠ_, _×ᶠ_, _÷ᶠ_by_}
+use Rattle.arithmetic.proofs.FractionLaws.{parts-≤ᶠ, ≤ᶠ-parts}
 use Rattle.arithmetic.proofs.NearLaws.{Near}
 use Rattle.figures.specs.Figures.{creditedOf}
 use Rattle.assurance.specs.Unrounded.{creditedᶠ}
 
--- in five-hundredths: at most 400 + 4 × l above, where the reduction's unrounded value is at most 5 × l above
-abbrev pub creditGap : ℕ → ℕ
-creditGap l = 400 + 4 * l
+-- z over the denominator of x
+abbrev over-den : ℤ → Fraction → Fraction
+over-den z x = record { num = z; den = x .den; positive = x .positive }
 
-pub near-credited : {z : ℤ} {x : Fraction} (l : ℕ) → Near z x 0 (5 * l) → Near (creditedOf z) (creditedᶠ x) 0 (creditGap l)
+-- if a reduction is at most l below its unrounded value, so is its credit, for an l of 4 grams or more: the discount takes a fifth of l off, at least
+-- 80 hundredths, and rounding the credit down costs at most 80
+pub near-credited : {z : ℤ} {x : Fraction} (l : ℕ) → 400 ≤ l → Near z x 0 l → Near (creditedOf z) (creditedᶠ x) 0 l
 unfolding creditedOf creditedᶠ _×ᶠ_ _÷ᶠ_by_
-near-credited {z} {x} l h = record {
-  low = simp (mul-above, mul-below) (discounted-low (over x) (under x) (x .den) (above z) (below z) (above q) (below q) (h .low) (simp (mul-above, mul-below) at (floored .low)));
-  high = simp (mul-above, mul-below) (discounted-high (over x) (under x) (x .den) (above z) (below z) (above q) (below q) (h .high) (simp (mul-above, mul-below) at (floored .high)));
-}
+near-credited {z} {x} l wide h = go z (x .num) h
   where
-    q : ℤ
-    q = floorDiv (z *ℤ pos 4) 5
+    remainder : (a : ℕ) → a ≤ a / 5 * 5 + 4
+    remainder a = omega arith
 
-    floored : Floor (z *ℤ pos 4) q 5
-    floored = floorDiv-parts (z *ℤ pos 4) 5 (zero-lt-suc 4)
+    go : (z n : ℤ) → Near z (over-den n x) 0 l → Near (creditedOf z) (creditedᶠ (over-den n x)) 0 l
+    go (pos a) (pos n) h = record {
+      low = omega (arith, h .low, mul-le-mul-right (100 * x .den) (div-mul-le-self (a * 4) 5));
+      high = omega (arith, h .high, mul-le-mul-right (100 * x .den) (remainder (a * 4)), mul-le-mul-right (x .den) wide);
+    }
+    -- the rounded reduction is never above the unrounded one
+    go (pos a) (negsuc n) h = let z : ⊥ = omega (arith, h .low) in absurd z
+    -- rounded below 0, unrounded not: the one whole, the other discounted
+    go (negsuc a) (pos n) h = record { low = omega arith; high = omega (arith, h .high) }
+    go (negsuc a) (negsuc n) h = h
 
-    discounted-low : (p m d a b c e : ℕ) → 500 * (a * d) + 500 * m ≤ 500 * p + (500 * b + 0) * d → c * 5 + b * 4 ≤ a * 4 + e * 5
-        → 500 * (c * (d * 5)) + 500 * (m * 4) ≤ 500 * (p * 4) + (500 * e + 0) * (d * 5)
-    discounted-low p m d a b c e f g = omega (arith, mul-le-mul-right (500 * d) g)
-
-    discounted-high : (p m d a b c e : ℕ) → 500 * (b * d) + 500 * p ≤ 500 * m + (500 * a + 5 * l) * d → a * 4 + e * 5 < c * 5 + b * 4 + 5
-        → 500 * (e * (d * 5)) + 500 * (p * 4) ≤ 500 * (m * 4) + (500 * c + (400 + 4 * l)) * (d * 5)
-    discounted-high p m d a b c e f g = let g′ : a * 4 + e * 5 ≤ c * 5 + b * 4 + 4 = omega arith in omega (arith, mul-le-mul-right (500 * d) g′)
+-- a greater reduction never credits less
+pub creditedᶠ-mono : (x y : Fraction) → x ≤ᶠ y → creditedᶠ x ≤ᶠ creditedᶠ y
+unfolding creditedᶠ _×ᶠ_ _÷ᶠ_by_
+creditedᶠ-mono x y h = go (x .num) (y .num) h
+  where
+    go : (a b : ℤ) → over-den a x ≤ᶠ over-den b y → creditedᶠ (over-den a x) ≤ᶠ creditedᶠ (over-den b y)
+    go (pos a) (pos b) h = parts-≤ᶠ (omega (arith, ≤ᶠ-parts h))
+    go (pos a) (negsuc b) h = let z : ⊥ = omega (arith, ≤ᶠ-parts h, x .positive) in absurd z
+    go (negsuc a) (pos b) h = parts-≤ᶠ (omega arith)
+    go (negsuc a) (negsuc b) h = h

@@ -1,9 +1,11 @@
 -- Document 01, "Unrounded reckoning": fractions throughout, rounding nowhere. The ᶠ marks what is a fraction.
 -- To be believed. Assumes nothing.
 use Prim.Native.Nat.{ℕ, _*_, _<_}
+use mathlib.Core.Bool.{cond}
 use mathlib.Core.List.{List, [], _∷_}
 use lib.Dec.{lit<}
 use lib.IntN.{pos}
+use lib.Signed.{nonNeg}
 use Rattle.arithmetic.specs.Fraction.{Fraction, whole, _+ᶠ_, _-ᶠ_, _×ᶠ_, _÷ᶠ_by_, ifPositive, sumᶠ}
 use Rattle.classes.specs.Classes.{classes, emissionFactor}
 use Rattle.classes.specs.Matrix.{entry, million}
@@ -57,9 +59,9 @@ displacedᶠ t y belt = ifPositive (emissionsᶠ t (y .beltConversions) -ᶠ ref
 unfoldable pub reductionᶠ : Terms → Year → Unrounded → Fraction
 reductionᶠ t y u = referenceᶠ t y (u .project) -ᶠ emissionsᶠ t (y .conversions) -ᶠ activityᶠ (y .activities) -ᶠ displacedᶠ t y (u .belt)
 
--- what the total grows by: reduction × 4 ÷ 5
+-- credited, what the total grows by: reduction × 4 ÷ 5; a negative reduction whole (#101). The sign is that of the unrounded reduction
 unfoldable pub creditedᶠ : Fraction → Fraction
-creditedᶠ reduction = reduction ×ᶠ 4 ÷ᶠ 5 by lit< tt
+creditedᶠ reduction = cond (nonNeg (reduction .num)) (reduction ×ᶠ 4 ÷ᶠ 5 by lit< tt) reduction
 
 -- area j becomes the sum of flows into j
 unfoldable pub nextAreasᶠ : (ℕ → Fraction) → List ℕ → ℕ → Fraction

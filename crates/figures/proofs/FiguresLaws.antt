@@ -1,19 +1,19 @@
--- A year's figures: what the code's sums and quotients come to, and their ranges.
+-- A year's figures: what the code's sums and quotients come to, their ranges, and that a greater reduction never credits less.
 -- Assumes nothing.
 use mathlib.Core.Path.{_≡_}
 use mathlib.Core.List.{List}
-use Prim.Native.Nat.{ℕ, suc, _+_, _*_, _/_, _≤_, _<_}
+use Prim.Native.Nat.{ℕ, _+_, _*_, _≤_, _<_}
 use native.Mathlib.Nat.{le-trans, le-of-eq, mul-le-mul, mul-le-mul-left, mul-le-mul-right, div-le-of-le-mul}
 use native.Mathlib.Omega.{arith}
 use lib.Dec.{lit≤}
 use lib.IntN.{ℤ, pos, negsuc, _-ℤ_}
-use lib.Signed.{mag}
+use lib.Signed.{_≤ℤ_, mag}
 use lib.ListN.{getD}
 use Rattle.arithmetic.specs.Sum.{sum}
-use Rattle.arithmetic.specs.Rounding.{floorDiv, positivePart}
+use Rattle.arithmetic.specs.Rounding.{positivePart}
 use Rattle.arithmetic.proofs.SumLaws.{sum-rows, sum2-le, sum2-mul}
 use Rattle.arithmetic.proofs.RoundingLaws.{ceilDiv-le}
-use Rattle.arithmetic.proofs.IntegerLaws.{mag-minus}
+use Rattle.arithmetic.proofs.IntegerLaws.{above, below, parts-le, le-parts, mag-minus}
 use Rattle.classes.specs.Classes.{classes, greatestArea}
 use Rattle.classes.specs.Matrix.{entry}
 use Rattle.classes.specs.Calendar.{daysInYear}
@@ -73,17 +73,21 @@ pub displaced-small : (belt reference : ℤ) → mag belt ≤ greatestEmissions 
 unfolding displacedEmissions
 displaced-small belt reference b r = omega (arith, positive-le (belt -ℤ reference), mag-minus belt reference)
 
-pub credited-positive : (n : ℕ) → creditedOf (pos n) ≡ pos (4 * n / 5)
-unfolding creditedOf floorDiv
-credited-positive n = let e : n * 4 ≡ 4 * n = omega arith in rw e
-
-pub credited-negative : (n : ℕ) → creditedOf (negsuc n) ≡ negsuc ((4 * n + 3) / 5)
-unfolding creditedOf floorDiv
-credited-negative n = let e : suc n * 4 ≡ suc (4 * n + 3) = omega arith in rw e
-
 credited-le : (reduction : ℤ) → mag (creditedOf reduction) ≤ mag reduction
-credited-le (pos n) = rw (credited-positive n) (omega arith)
-credited-le (negsuc n) = rw (credited-negative n) (omega arith)
+unfolding creditedOf
+credited-le (pos n) = omega arith
+credited-le (negsuc n) = omega arith
+
+-- a greater reduction never credits less
+pub credited-mono : (a b : ℤ) → a ≤ℤ b → creditedOf a ≤ℤ creditedOf b
+unfolding creditedOf
+credited-mono a b h = parts-le (creditedOf a) (creditedOf b) (go a b (le-parts a b h))
+  where
+    go : (a b : ℤ) → above a + below b ≤ above b + below a → above (creditedOf a) + below (creditedOf b) ≤ above (creditedOf b) + below (creditedOf a)
+    go (pos a) (pos b) h = omega arith
+    go (pos a) (negsuc b) h = omega arith
+    go (negsuc a) (pos b) h = omega arith
+    go (negsuc a) (negsuc b) h = omega arith
 
 pub tonnes-le : (total : ℤ) → tonnesOf total ≤ mag total
 unfolding tonnesOf

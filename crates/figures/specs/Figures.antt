@@ -4,9 +4,9 @@ use Prim.Native.Nat.{ℕ, _*_, _/_}
 use mathlib.Core.Bool.{cond}
 use mathlib.Core.List.{List}
 use lib.Dec.{eqb}
-use lib.IntN.{ℤ, pos, negsuc, _-ℤ_, _*ℤ_}
+use lib.IntN.{ℤ, pos, negsuc, _-ℤ_}
 use Rattle.arithmetic.specs.Sum.{sum}
-use Rattle.arithmetic.specs.Rounding.{ceilDiv, floorDiv, positivePart}
+use Rattle.arithmetic.specs.Rounding.{ceilDiv, positivePart}
 use Rattle.classes.specs.Classes.{classes, NF}
 use Rattle.classes.specs.Matrix.{entry}
 use Rattle.figures.specs.declared.Figures.{Figures}
@@ -36,9 +36,10 @@ displacedEmissions belt beltReference = positivePart (belt -ℤ beltReference)
 unfoldable pub reductionOf : (reference project activity displaced : ℤ) → ℤ
 reductionOf reference project activity displaced = reference -ℤ project -ℤ activity -ℤ displaced
 
--- credited = reduction × 4 ÷ 5 (document 001, equation 42: discount factor 0.2), rounded down, away from zero for a negative one
+-- credited = reduction × 4 ÷ 5 (document 001, equation 42: discount factor 0.2), rounded down; a negative reduction whole (#101; negsuc n is -(n + 1))
 unfoldable pub creditedOf : ℤ → ℤ
-creditedOf reduction = floorDiv (reduction *ℤ pos 4) 5
+creditedOf (pos reduction) = pos (reduction * 4 / 5)
+creditedOf (negsuc n) = negsuc n
 
 -- tonnes = total ÷ 1,000,000, down; 0 for a negative total
 unfoldable pub tonnesOf : ℤ → ℕ

@@ -4,11 +4,11 @@ use classes::CarbonUnits;
 use classes::Grams;
 use projection::Region;
 ghost use mathlib.Core.Path.{_≡_};
-ghost use Prim.Native.Nat.{_^_, _≤_, _<_};
+ghost use Prim.Native.Nat.{_≤_, _<_};
 ghost use mathlib.Core.Bool.{cond};
 ghost use lib.Dec.{eqb};
 ghost use lib.ListN.{length};
-ghost use lib.IntN.{pos, negsuc};
+ghost use lib.IntN.{pos};
 ghost use lib.Signed.{mag};
 ghost use Rattle.classes.specs.Classes.{NF, emissionFactor};
 ghost use Rattle.classes.specs.Matrix.{entry, tableOf};
@@ -157,25 +157,15 @@ fn displaced_emissions(belt: Grams, reference: Grams) -> Grams
     excess
 }
 
-// -(n + 1).
-fn negative(n: u64) -> Grams
-    requires { ⌜ n < 2 ^ 63 ⌝ }
-    ensures { λ r. ⌜ r .0 ≡ negsuc n ⌝ }
-{
-    Grams(-1 - (n as i64))
-}
-
-// Four fifths of a reduction, rounded down: of -(n + 1) it is -((4 × n + 3) ÷ 5 + 1).
+// Four fifths of a reduction, rounded down; a negative one whole.
 fn credited_part(reduction: Grams) -> Grams
     requires { ⌜ mag (reduction .0) < greatestFigure ⌝ }
     ensures { λ r. ⌜ r .0 ≡ creditedOf (reduction .0) ⌝ }
 {
-    let n = arithmetic::magnitude(reduction.0);
     if reduction.0 < 0 {
-        negative((4 * n + 3) / 5)
-    } else {
-        Grams::of(4 * n / 5)
+        return reduction;
     }
+    Grams::of(arithmetic::magnitude(reduction.0) * 4 / 5)
 }
 
 // The whole tonnes of a total.

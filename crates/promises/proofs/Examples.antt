@@ -4,7 +4,7 @@ use mathlib.Core.Path.{_≡_, refl}
 use mathlib.Core.List.{map}
 use lib.IntN.{pos, _*ℤ_}
 use Rattle.arithmetic.specs.Sum.{sum, listed}
-use Rattle.arithmetic.specs.Rounding.{ceilDiv, floorDiv}
+use Rattle.arithmetic.specs.Rounding.{ceilDiv}
 use Rattle.arithmetic.specs.Fraction.{Fraction, whole, _+ᶠ_, _-ᶠ_, negᶠ, _×ᶠ_, _÷ᶠ_by_, ifPositive, sumᶠ}
 use Rattle.classes.specs.Classes.{carbonStocks, deforestationProbabilities, emissionFactor}
 use Rattle.classes.specs.Matrix.{optionOne, optionOneMatrix}
@@ -37,7 +37,7 @@ unfolding examples caseA bufferA threeUnits
     head areas matrixUnder conversions inRange fieldsOf activityMark activityUnder activity
     opening run activities yearRecords yearLeft year end years dossier
     -- classes, projection, activity records, figures
-    sum listed ceilDiv floorDiv carbonStocks deforestationProbabilities emissionFactor optionOne optionOneMatrix daysInYear
+    sum listed ceilDiv carbonStocks deforestationProbabilities emissionFactor optionOne optionOneMatrix daysInYear
     projectedCarbon nextArea nextAreas lostArea openedRegion projectedRegion numerator denominator activityGrams activityEmissions
     referenceLevel monitoredCarbon countedFactor stockChangeEmissions displacedEmissions reductionOf creditedOf tonnesOf figuresOf
     regionReference tableEmissions yearFigures afterFigures afterYear

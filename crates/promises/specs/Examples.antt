@@ -60,7 +60,7 @@ sheetA =
 unfoldable pub threeUnits : Region
 threeUnits = projectedRegion optionOneMatrix (openedRegion (units (only E 3)))
 
--- ---- the table: what the definitions give, and what document 01 states, each as a list of whole numbers
+-- ---- the table: what the definitions give, and what documents 01 and 02 state, each as a list of whole numbers
 pub record Example : Type 0 where
   pub given : List ℤ
   pub stated : List ℤ
@@ -105,8 +105,9 @@ examples =
     ∷ number (activityGrams (Fuel 1 1_000)) 3_187
     ∷ number (activityGrams (Nitrogen 1 1 1_000_000 4_600)) 2_854_202
     ∷ number (activityGrams (Lime 1 1)) 1
-    -- reduction −1 credits −1
+    -- reduction −1 credits −1, −10 credits −10 (#101)
     ∷ figure (creditedOf (negsuc 0)) (negsuc 0)
+    ∷ figure (creditedOf (negsuc 9)) (negsuc 9)
     -- E 3 units, Option 1, one year: E 2, NF 0, balance 1
     ∷ number (area (threeUnits .areas) E) 2
     ∷ number (area (threeUnits .areas) NF) 0
