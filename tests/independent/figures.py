@@ -29,7 +29,7 @@ def twenty_years(rng):
 
 
 def tells_apart(ledger):
-    """Whether no two numbers are alike but where a bad year is credited whole, none is 0, and there are years of either sign, with a total above 0."""
+    """Whether no two numbers are alike but where a bad year is credited whole, none is 0, and years of either sign come to a total above 0."""
     numbers, bad = ledger.numbers(), sum(figures[-1] < 0 for figures in ledger.years)
     return len(set(numbers)) == len(numbers) - bad and 0 not in numbers and 0 < bad < len(ledger.years) and ledger.total > 0
 

@@ -389,9 +389,11 @@ def reduced(*reductions):
 
 
 def bad_years():
-    """#101: a negative reduction is credited whole, zero and positive ones by four fifths, each year by itself, the unrounded total by the sign of the unrounded reduction."""
+    """#101: a negative reduction is credited whole, zero and positive ones by four fifths; each year by itself, and the unrounded total
+    by the sign of the unrounded reduction."""
     for reduction, credited in ((-10, -10), (-6, -6), (-5, -5), (-4, -4), (-1, -1), (0, 0), (1, 0), (4, 3), (5, 4)):
-        yield accepted(f"a forest's reduction {reduction}", reduced(reduction), reference=160636666, reduction=reduction, credited=credited, total=credited)
+        yield accepted(f"a forest's reduction {reduction}", reduced(reduction), reference=160636666, reduction=reduction, credited=credited,
+                       total=credited)
     yield accepted("a bad year first", reduced(-10, 5), credited=4, total=-6, tonnes=0)
     yield accepted("a bad year last", reduced(5, -10), credited=-10, total=-6, tonnes=0)
     yield accepted("a bad year takes a tonne", reduced(10**7, -1), credited=-1, total=7999999, tonnes=7)
@@ -626,7 +628,8 @@ def require(holds, what):
 
 
 def line(label, due, data, room, figures):
-    """The vector's line, which has the number and the figures stated of the last year; an unrounded total is looked up in the independent reckoner, for no call reports it."""
+    """The vector's line, which has the number and the figures stated of the last year. An unrounded total that is stated is held to the
+    independent reckoner's alone, for no call reports it."""
     buffer = bytearray([165] * room)
     number, ledger = reckoner.reckon(data, buffer)
     require(number == due, f"{label}: {number} where {due} is due")

@@ -14,12 +14,16 @@ use Rattle.arithmetic.proofs.SignedLaws.{below-zero, from-zero}
 use Rattle.figures.proofs.credited_part.Statement.{statement}
 use Rattle.figures.proofs.credited_part.Tie as tie
 
--- the field that the code reads fits, and its magnitude
+-- the field that the code reads fits
 reduction-fits : (c : tie.After-struct-told) → SFits w64 (c .before .before .args .reduction .0)
 reduction-fits c = sfits-of (c .struct-told .given .0 .1)
 
-size : (c : tie.After-magnitude) → c .magnitude .result ≡ mag (c .before .before .before .before .before .args .reduction .0)
-size c = c .magnitude .ensures ∙ ap mag (toZ-ofZ (reduction-fits (c .before .before .before)))
+-- from 0 on: where the test for a negative one failed, and the magnitude
+abbrev at-test : tie.After-magnitude → tie.Else1
+at-test c = c .before .before
+
+size : (c : tie.After-magnitude) → c .magnitude .result ≡ mag (at-test c .before .before .before .args .reduction .0)
+size c = c .magnitude .ensures ∙ ap mag (toZ-ofZ (reduction-fits (at-test c .before)))
 
 returns : tie.Need-returns
 unfolding creditedOf
@@ -37,9 +41,9 @@ of-requires c κs = omega (arith, size c)
 returns-2 : tie.Need-returns-2
 unfolding creditedOf
 returns-2 c =
-    let b = c .before in
-    let e = from-zero (reduction-fits (b .before .before .before)) (b .before .before .if1 .left) in
-    c .of .ensures ∙ ap (λ (n : ℕ). pos (n * 4 / 5)) (size b) ∙ ap creditedOf (sym e)
+    let tested = at-test (c .before) in
+    let e = from-zero (reduction-fits (tested .before)) (tested .if1 .left) in
+    c .of .ensures ∙ ap (λ (n : ℕ). pos (n * 4 / 5)) (size (c .before)) ∙ ap creditedOf (sym e)
 
 pub credited-part-spec : {M : Type 1} → statement M
 credited-part-spec = tie.close (tie.spec returns magnitude-requires mul-of of-requires returns-2)
