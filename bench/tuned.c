@@ -10,7 +10,7 @@
 
 typedef const uint8_t *bytes;
 
-static const uint32_t stock[12] = { 9130, 13511, 5654, 4821, 0, 8415, 9240, 3986, 4265, 5654, 5654, 0 };
+static const uint32_t built_in[12] = { 9130, 13511, 5654, 4821, 0, 8415, 9240, 3986, 4265, 5654, 5654, 0 };
 static const uint32_t lost[12] = { 24900, 30900, 0, 34500, 14100, 10000, 41700, 50600, 97200, 116900, 0, 0 };
 static const uint32_t fuel[3] = { 318630, 306999, 310059 }, lime[3] = { 132, 143, 220 };
 static const uint32_t nitrogen[2][3] = { { 1325, 1425, 1225 }, { 625, 725, 525 } };
@@ -147,8 +147,19 @@ INLINE uint32_t activities(bytes *at, bytes end, uint64_t *grams)
     return 0;
 }
 
-/* both tables of factors */
-INLINE void weights(uint64_t factors[12][12], uint64_t counted[12][12], uint32_t option)
+/* ST: twelve stocks; 11 where one is out of range */
+INLINE uint32_t stocks(bytes s, uint32_t stock[12])
+{
+    int above = 0;
+    UNROLL for (int i = 0; i < 12; i++) {
+        stock[i] = field16(s + 2 * i);
+        above |= stock[i] > 50000;
+    }
+    return above || stock[11] ? 11 : 0;
+}
+
+/* both tables of factors, of the list of stocks in force */
+INLINE void weights(const uint32_t stock[12], uint64_t factors[12][12], uint64_t counted[12][12], uint32_t option)
 {
     for (int i = 0; i < 12; i++)
         for (int j = 0; j < 12; j++) {
@@ -178,7 +189,8 @@ uint32_t plain_reckon(const uint8_t *dossier, size_t dossier_len, uint8_t *resul
     bytes s = dossier, end = dossier + dossier_len;
     uint64_t area[2][12], start[2], balance[2] = { 0, 0 };
     uint64_t matrix[12][12], factors[12][12], counted[12][12];
-    uint32_t fault;
+    uint32_t fault, filed[12];
+    const uint32_t *stock = built_in;
     int64_t out[8 * 20 + 4], total = 0;
 
     if ((fault = begin(s, end, MARK('H', 'D'), 4)))
@@ -187,6 +199,12 @@ uint32_t plain_reckon(const uint8_t *dossier, size_t dossier_len, uint8_t *resul
     if (option < 1 || option > 2 || first < 2000 || first > 2200 || n < 1 || n > 20)
         return 3;
     s += 6;
+    if (begin(s, end, MARK('S', 'T'), 0) == 0) {
+        if ((fault = begin(s, end, MARK('S', 'T'), 24)) || (fault = stocks(s + 2, filed)))
+            return fault;
+        stock = filed;
+        s += 26;
+    }
     for (int r = 0; r < 2; r++, s += 98) {
         if ((fault = begin(s, end, r ? MARK('D', 'A') : MARK('P', 'A'), 96)))
             return fault;
@@ -202,7 +220,7 @@ uint32_t plain_reckon(const uint8_t *dossier, size_t dossier_len, uint8_t *resul
     }
     if ((fault = probabilities(rows, option, matrix)))
         return fault;
-    weights(factors, counted, option);
+    weights(stock, factors, counted, option);
     for (uint32_t y = 0; y < n; y++) {
         if ((fault = begin(s, end, MARK('Y', 'R'), 4)))
             return fault;

@@ -66,8 +66,27 @@ def twenty_years():
             + b"MP" + matrix + years + b"EN")
 
 
+def newer_stocks():
+    """Option 2 over two years by stocks that the owner files: forest of four classes that is lost, degrades and grows back, and a belt."""
+    stocks = dict(zip(CLASSES, (9_685, 12_940, 5_910, 5_075, 1_260, 8_820, 8_930, 4_210, 4_050, 5_480, 5_725, 0)))
+    rates = {("E", "NF"): 21_000, ("E", "FR"): 4_000, ("SE", "NF"): 27_500, ("SE", "E"): 6_000, ("D", "NF"): 33_000, ("D", "B"): 5_000,
+             ("FR", "NF"): 60_000, ("FR", "SE"): 2_000, ("NF", "FR"): 1_500}
+    rows = [rates.get((i, j), 0) + (i == j) * (1_000_000 - sum(p for (c, _), p in rates.items() if c == i)) for i in CLASSES for j in CLASSES]
+    start = dict(E=5_400_000_000, SE=3_150_000_000, D=1_275_500_000, FR=310_250_000)
+    belt = dict(E=820_000_000, D=440_000_000, NF=95_000_000)
+    years = b""
+    for year, days, lost, degraded, diesel in ((2026, 214, 18_400_000, 7_150_000, 900_000), (2027, 365, 31_250_000, 9_875_000, 1_600_000)):
+        turned = (("E", "NF", lost), ("E", "FR", degraded), ("E", "E", start["E"] - lost - degraded),
+                  ("SE", "E", 4_100_000), ("SE", "SE", start["SE"] - 4_100_000), ("D", "D", start["D"]), ("FR", "FR", start["FR"]))
+        years += (b"YR" + struct.pack(">HH", year, days) + b"CP" + conversions(*turned)
+                  + b"CD" + conversions(("E", "NF", 9_500_000), ("E", "E", 810_500_000), ("D", "D", belt["D"]), ("NF", "NF", belt["NF"]))
+                  + b"FU" + struct.pack(">BQ", 1, diesel) + b"NI" + struct.pack(">BBQH", 2, 1, 250_000, 180))
+    return (b"HD" + struct.pack(">BHB", 2, 2026, 2) + b"ST" + struct.pack(">12H", *stocks.values()) + b"PA" + areas(**start)
+            + b"DA" + areas(**belt) + b"MP" + struct.pack(">144I", *rows) + years + b"EN")
+
+
 def refusals():
-    """One dossier for each refusal that bytes alone can bring, case A or the twenty years with one fault."""
+    """One dossier for each refusal that bytes alone can bring, case A or another example with one fault."""
     good, long = case_a(), twenty_years()
 
     def with_bytes(data, at, new):
@@ -84,6 +103,7 @@ def refusals():
         7: with_bytes(good, 210, struct.pack(">Q", 99_000_001)),
         8: with_bytes(good, len(good) - 11, bytes([4])),
         9: good[:-2] + 60 * fuel + b"EN",
+        11: with_bytes(newer_stocks(), 8, struct.pack(">H", 50_001)),
     }
 
 
@@ -92,5 +112,6 @@ if __name__ == "__main__":
     (folder / "case-a.dossier").write_bytes(case_a())
     (folder / "bad-year.dossier").write_bytes(bad_year())
     (folder / "twenty-years.dossier").write_bytes(twenty_years())
+    (folder / "newer-stocks.dossier").write_bytes(newer_stocks())
     for number, data in refusals().items():
         (folder / f"refused-{number}.dossier").write_bytes(data)

@@ -13,14 +13,14 @@ extern "C" {
 /* The version of this header and of the library that belongs to it. The first number rises where something here changes
  * its meaning, or a figure its rule of reckoning, the second where something is added. */
 #define KH_AM004_VERSION_MAJOR 2
-#define KH_AM004_VERSION_MINOR 0
+#define KH_AM004_VERSION_MINOR 1
 
 /* Bytes of the report of n years. */
 #define KH_AM004_REPORT_BYTES(n) (64 * (size_t)(n) + 32)
 
 /* The greatest number of years, and the bytes of the longest dossier and of the longest report. */
 #define KH_AM004_MOST_YEARS 20
-#define KH_AM004_LONGEST_DOSSIER 65062
+#define KH_AM004_LONGEST_DOSSIER 65088
 #define KH_AM004_LONGEST_REPORT 1312
 
 /* Where the report holds what. Year y, counted from 0, begins at KH_AM004_AT_YEAR(y), and its figures stand at these
@@ -55,7 +55,8 @@ enum kh_am004_number {
     KH_AM004_REFUSED_CONVERSIONS = 7,
     KH_AM004_REFUSED_ACTIVITY = 8,
     KH_AM004_REFUSED_RECORDS = 9,
-    KH_AM004_REFUSED_BUFFER = 10
+    KH_AM004_REFUSED_BUFFER = 10,
+    KH_AM004_REFUSED_STOCKS = 11
 };
 
 /* What a number says, in English; "unknown number" for any that no call answers. */
@@ -74,6 +75,7 @@ static inline const char *kh_am004_text(uint32_t number)
     case KH_AM004_REFUSED_ACTIVITY: return "an activity record's field, or the product of VE";
     case KH_AM004_REFUSED_RECORDS: return "a 61st activity record in one year";
     case KH_AM004_REFUSED_BUFFER: return "the result buffer is too short";
+    case KH_AM004_REFUSED_STOCKS: return "ST: a carbon stock above 50,000, or that of NF not 0";
     default: return "unknown number";
     }
 }

@@ -10,7 +10,7 @@
 #include <string.h>
 #include <time.h>
 
-enum { ONE = 1000000, MOST_RECORDS = 4 + 20 * (3 + 61) + 1 };
+enum { ONE = 1000000, MOST_RECORDS = 5 + 20 * (3 + 61) + 1 };
 
 static uint8_t made[70000], spoilt[70000];
 static size_t length, begins[MOST_RECORDS + 1]; /* where each record begins, and where the last one ends */
@@ -105,7 +105,14 @@ static void record(int kind, uint64_t share)
         put(draw(1000000000000 / share + 1), 8);
 }
 
-static void dossier(int option, int first, int years, int records, int kind)
+static uint64_t stock(void)
+{
+    static const uint64_t edges[4] = { 0, 1, 49999, 50000 };
+    return draw(4) ? draw(50001) : edges[draw(4)];
+}
+
+/* filed: with stocks or without; below 0, as records and kind, at random */
+static void dossier(int option, int filed, int first, int years, int records, int kind)
 {
     /* half of them lose little of their forest and have small records, so that totals of either sign come */
     static const uint64_t losses[4] = { 0, 2000, 50000, 300000 };
@@ -118,6 +125,11 @@ static void dossier(int option, int first, int years, int records, int kind)
     put((uint64_t)option, 1);
     put((uint64_t)first, 2);
     put((uint64_t)years, 1);
+    if (filed < 0 ? draw(3) == 0 : filed) {
+        mark("ST");
+        for (int i = 0; i < 12; i++)
+            put(i < 11 ? stock() : 0, 2);
+    }
     for (int r = 0; r < 2; r++) {
         mark(r ? "DA" : "PA");
         split(start[r], 12, 8);
@@ -149,7 +161,7 @@ static void dossier(int option, int first, int years, int records, int kind)
     begins[records_made] = length;
 }
 
-static unsigned counts[11], positive, of_either_sign;
+static unsigned counts[12], positive, of_either_sign, with_stocks;
 
 /* counts the reports with tonnes, and those with years of either sign */
 static void count_signs(const uint8_t *report, size_t n)
@@ -175,21 +187,31 @@ static void same(const uint8_t *s, size_t n, size_t room)
     if (memcmp(proved, plain, sizeof proved))
         differ(s, n, "the buffers differ", a, b, room);
     counts[a]++;
-    if (a == KH_AM004_ACCEPTED)
+    if (a == KH_AM004_ACCEPTED) {
         count_signs(proved, s[5]);
+        with_stocks += memcmp(s + 6, "ST", 2) == 0;
+    }
 }
 
 static void spoil(void)
 {
-    static const char *marks[10] = { "HD", "PA", "DA", "MP", "YR", "CP", "CD", "FU", "EN", "LI" };
+    static const char *marks[11] = { "HD", "ST", "PA", "DA", "MP", "YR", "CP", "CD", "FU", "EN", "LI" };
     size_t n = length, k;
     memcpy(spoilt, made, n);
-    switch (draw(8)) {
+    switch (draw(9)) {
     case 0: n = draw(n + 1); break;
     case 1: spoilt[n] = (uint8_t)draw(256); n += 1 + draw(8); break;
-    case 2: memcpy(spoilt + draw(n - 1), marks[draw(10)], 2); break;
+    case 2: memcpy(spoilt + draw(n - 1), marks[draw(11)], 2); break;
     case 3: spoilt[draw(draw(2) ? 12 : n)] = (uint8_t)draw(256); break;
-    case 4: memcpy(spoilt + n - 2, marks[draw(10)], 2); n += draw(8); break;
+    case 4: memcpy(spoilt + n - 2, marks[draw(11)], 2); n += draw(8); break;
+    case 5: /* stocks, one of them any number, before some record, mostly one of the first */
+        k = begins[draw(4) ? draw(4) : draw((uint64_t)records_made)];
+        memmove(spoilt + k + 26, spoilt + k, n - k);
+        memset(spoilt + k, 0, 26);
+        memcpy(spoilt + k, "ST", 2);
+        spoilt[k + 2 + draw(24)] = (uint8_t)draw(256);
+        n += 26;
+        break;
     default: /* a record with a wrong byte, and then its end or up to three bytes more */
         k = draw(2) ? draw((uint64_t)records_made) : draw(8);
         n = begins[k + 1] + draw(4) * draw(2);
@@ -207,20 +229,47 @@ static void expect(uint32_t due, size_t room)
         differ(made, length, "an edge", answer, due, room);
 }
 
+/* another stock of a class in ST */
+static void expect_stock(uint32_t due, int class, unsigned stock)
+{
+    made[8 + 2 * class] = (uint8_t)(stock >> 8);
+    made[9 + 2 * class] = (uint8_t)stock;
+    expect(due, 96);
+}
+
+/* the limits of the stocks, and bytes that end in ST and with it */
+static void stock_edges(void)
+{
+    dossier(1, 1, 2020, 1, 0, -1);
+    for (int c = 0; c < 11; c++) {
+        expect_stock(11, c, 50001);
+        expect_stock(11, c, 65535);
+        expect_stock(0, c, 50000);
+    }
+    expect_stock(11, 11, 1);
+    expect_stock(11, 11, 50000);
+    length = 31;
+    expect(1, 96);
+    length = 32;
+    expect(11, 96);
+    made[30] = made[31] = 0;
+    expect(1, 96);
+}
+
 /* document 01's unmarked edges */
 static void edges(void)
 {
-    dossier(1, 2020, 20, 0, -1);
+    dossier(1, 0, 2020, 20, 0, -1);
     expect(0, 1312);
     made[5] = 21;
     expect(3, 1312);
-    dossier(2, 2020, 1, 0, -1);
+    dossier(2, 0, 2020, 1, 0, -1);
     expect(10, 95);
     expect(0, 96);
     for (size_t at = 251; made[at]-- == 0; at--) /* the last cell of the first row, one less: 999,999 */
         ;
     expect(5, 1312);
-    dossier(1, 2100, 1, 0, -1);
+    dossier(1, 0, 2100, 1, 0, -1);
     expect(0, 96);
     made[206] = 366 >> 8;
     made[207] = 366 & 255;
@@ -234,7 +283,7 @@ static void long_inputs(void)
     static uint8_t result[1312];
     for (int k = 0; k < 2000; k++) {
         if (k % 100 == 0)
-            dossier(2, 2000, 20, 60, 1);
+            dossier(2, 1, 2000, 20, 60, 1);
         memcpy(spoilt, made, length);
         for (size_t at = length; at < sizeof spoilt; at++)
             spoilt[at] = (uint8_t)draw(256);
@@ -276,9 +325,9 @@ static void on_small_stack(void)
     void *answer = NULL;
     pthread_attr_t small;
     pthread_t thread;
-    dossier(2, 2000, 20, 60, 1);
+    dossier(2, 1, 2000, 20, 60, 1);
     pthread_attr_init(&small);
-    if (length != 65062 || pthread_attr_setstacksize(&small, 65536) || pthread_create(&thread, &small, on_thread, NULL))
+    if (length != KH_AM004_LONGEST_DOSSIER || pthread_attr_setstacksize(&small, 65536) || pthread_create(&thread, &small, on_thread, NULL))
         fail("no longest dossier, or no thread with a stack of 64 KiB");
     pthread_join(thread, &answer);
     if (answer != made)
@@ -290,25 +339,26 @@ int main(int argc, char **argv)
     given = argc > 1 ? strtoull(argv[1], NULL, 10) : 0;
     seed += given;
     edges();
+    stock_edges();
     long_inputs();
     for (int k = 0; k < 3000; k++) {
         int first = 2000 + (int)draw(201);
-        dossier(1 + (int)draw(2), first, 1 + (int)draw(20), -1, -1);
+        dossier(1 + (int)draw(2), -1, first, 1 + (int)draw(20), -1, -1);
         same(made, length, draw(2) ? 1312 : draw(1400));
-        dossier(1 + (int)draw(2), first, 1 + (int)draw(20), (int)draw(5), -1);
+        dossier(1 + (int)draw(2), -1, first, 1 + (int)draw(20), (int)draw(5), -1);
         same(made, length, 1312);
         for (int s = 0; s < 10; s++)
             spoil();
     }
     printf("same number and same bytes; how often each number came:");
-    for (int k = 0; k <= 10; k++)
+    for (int k = 0; k <= 11; k++)
         printf(" %u", counts[k]);
-    printf("\nof the accepted ones %u had tonnes, %u years of either sign\n", positive, of_either_sign);
-    for (int k = 0; k <= 10; k++)
+    printf("\nof the accepted ones %u had tonnes, %u years of either sign, %u stocks of their own\n", positive, of_either_sign, with_stocks);
+    for (int k = 0; k <= 11; k++)
         if (!counts[k])
             fail("not every number came");
-    if (positive < counts[0] / 5 || of_either_sign < counts[0] / 20)
-        fail("too few of the accepted dossiers had tonnes, or years of either sign");
+    if (positive < counts[0] / 5 || of_either_sign < counts[0] / 20 || with_stocks < counts[0] / 5)
+        fail("too few of the accepted dossiers had tonnes, years of either sign, or stocks of their own");
     on_small_stack();
     if (argc > 2) /* bytes only, no times */
         return 0;

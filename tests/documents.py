@@ -190,7 +190,7 @@ def dossier_sizes():
     if found != sizes:
         wrong(document, f"the records' sizes are {sizes}")
     opening, year = sizes["HD"] + sizes["PA"] + sizes["DA"], sizes["YR"] + sizes["CP"] + sizes["CD"]
-    shortest, longest = opening + year + sizes["EN"], opening + sizes["MP"] + 20 * (year + 60 * sizes["VE"]) + sizes["EN"]
+    shortest, longest = opening + year + sizes["EN"], opening + sizes["ST"] + sizes["MP"] + 20 * (year + 60 * sizes["VE"]) + sizes["EN"]
     for name, size in (("shortest", shortest), ("longest", longest)):
         if f"The {name} dossier has {size:,} bytes" not in text:
             wrong(document, f"it does not say that the {name} dossier has {size:,} bytes")
@@ -216,6 +216,38 @@ EQUATIONS = {"flow": ("2, 3", "8", "30, 31, 37"), "next area": ("4, 5", "9", "32
              "credited": ("42", "42", "none"), "total": ("43", "43", "none"), "tonnes": ("43", "43", "none"), "balance": ("none", "none", "none")}
 
 
+def bound(n, m, greatest=None):
+    """The independent reckoner's, by the built-in stocks, or by a list with this greatest one."""
+    ledger = reckoner.Ledger()
+    ledger.years, ledger.records = [()] * n, m
+    ledger.stock = reckoner.STOCK if greatest is None else {"E": greatest}
+    return ledger.bound()
+
+
+def is_bound(times, first, stock, year, record):
+    """Whether times the bound is first × S × n × (n + 1) + year × n + record × m; without S, by the built-in stocks, first rounded up."""
+    times, first, year, record = (Fraction((number or "1").replace(",", "")) for number in (times, first, year, record))
+    if not stock:
+        return (times, first, year, record) == (1, math.ceil((bound(1, 0) - bound(1, 0, 0)) / 2), 5, 1)
+    return all(first * s * n * (n + 1) + year * n + record * m == times * bound(n, m, s)
+               for s in (0, 1, 50000) for n in (1, 2, 20) for m in (0, 1, 1200))
+
+
+def bounds():
+    """The bound's formula wherever METHOD.md and PROMISES.md state it: in grams by the greatest stock S, in PROMISES.md in whole numbers too."""
+    number = r"(\d[\d,.]*)"
+    for name, wholes in (("METHOD.md", False), ("PROMISES.md", True)):
+        document = ROOT / "docs" / name
+        text = document.read_text()
+        found = re.findall(rf"(?:{number} × gap < )?{number} × (S × )?n × \(n \+ 1\)(?: \+ {number} × n \+ (?:{number} × )?m\b)?", text)
+        for formula in found:
+            if not formula[3] or not is_bound(*formula):
+                wrong(document, f"a bound that is not the reckoner's: {formula}")
+        for times in ("", *("25",) * wholes):
+            if not any(formula[0] == times and formula[2] for formula in found):
+                wrong(document, f"the bound by S is not stated{', times 25 in whole numbers' if times else ''}")
+
+
 def method():
     document = ROOT / "docs" / "METHOD.md"
     text = document.read_text()
@@ -239,17 +271,12 @@ def method():
     lime = {int(kind): (Fraction(carbon) * 1100, plain(factor)) for kind, _, carbon, factor in fours if kind.isdigit() and carbon.startswith("0.")}
     same("lime", lime, {kind: (factor, factor) for kind, factor in reckoner.LIMING.items()})
     same("the weight of N2O", Fraction(3278, 7), Fraction(44, 28) * 298)
-    bounds = [cells for cells in fours if cells[0].isdigit() and cells[1].replace(",", "").isdigit()]
-    same("the rows of the bound", [(int(n), plain(m)) for n, m, *_ in bounds], [(1, 0), (1, 60), (5, 300), (10, 600), (20, 1200)])
-    for n, m, grams, tonnes in bounds:
-        ledger = reckoner.Ledger()
-        ledger.years, ledger.records = [()] * int(n), plain(m)
-        due = Fraction(ledger.bound())
+    limits = [cells for cells in fours if cells[0].isdigit() and cells[1].replace(",", "").isdigit()]
+    same("the rows of the bound", [(int(n), plain(m)) for n, m, *_ in limits], [(1, 0), (1, 60), (5, 300), (10, 600), (20, 1200)])
+    for n, m, grams, tonnes in limits:
+        due = bound(int(n), plain(m))
         same(f"the bound of {n} years", Fraction(grams.replace(",", "")), due)
         same(f"the bound of {n} years in tonnes", Fraction(tonnes), Fraction(math.ceil(due / 10**4), 100))
-    for other in (document, ROOT / "docs" / "PROMISES.md"):
-        formulas = set(re.findall(r"\d+,\d+ × n × \(n \+ 1\)[^,.|]*? m\b", other.read_text()))
-        same(f"the bound's formula in {other.name}", formulas, {"65,394 × n × (n + 1) + 5 × n + m"})
     same("the longest dossier's bound", f"less than {math.ceil(due / 10**6)} t to rounding" in text, True)
     steps = {cells[0]: tuple(cells[3:]) for cells in sixes if cells[0] in EQUATIONS}
     same("the equations", steps, EQUATIONS)
@@ -262,11 +289,16 @@ def method():
     reference, project, *_, reduction, _ = ledger.years[1]
     for figure in [f"{grams:,} g" for grams in (reference, project, reduction, ledger.total)] + [f"{ledger.numbers()[-3]} tonnes"]:
         same(f"{figure} of the bad year", figure.replace("-", "−") in text, True)
+    newer = (ROOT / "examples" / "newer-stocks.dossier").read_bytes()
+    for dossier in (newer, newer[:6] + newer[32:]):  # with ST, and without it
+        _, ledger = reckoner.reckon(dossier, bytearray(160))
+        figure = f"{ledger.total:,} g, {ledger.numbers()[-3]:,} tonnes"
+        same(f"{figure} by newer stocks", figure in text, True)
 
 
 def main():
     cited = promises()
-    for check in (counted, links, numbers, dossier_sizes, decisions, method):
+    for check in (counted, links, numbers, dossier_sizes, decisions, bounds, method):
         check()
     if found_wrong:
         sys.exit("\n".join(found_wrong))

@@ -109,7 +109,8 @@ static void spoilt(const char *fault, uint32_t due, const uint8_t *sound, size_t
     refused(fault, due, dossier, length, KH_AM004_REPORT_BYTES(1));
 }
 
-static void test_refusals(const uint8_t *a, size_t length, const uint8_t *matrix, size_t matrix_length)
+/* By case A, and by the longest dossier for the records that case A lacks. */
+static void test_refusals(const uint8_t *a, size_t length, const uint8_t *longest, size_t longest_length)
 {
     static uint8_t more[8192];
     size_t room = KH_AM004_REPORT_BYTES(1), fuel = length - 13;
@@ -118,7 +119,8 @@ static void test_refusals(const uint8_t *a, size_t length, const uint8_t *matrix
     refused("a byte after EN", KH_AM004_REFUSED_MARK, more, length + 1, room);
     spoilt("21 years", KH_AM004_REFUSED_HEAD, a, length, 5, 21);
     spoilt("an area of 2^63", KH_AM004_REFUSED_AREAS, a, length, 8, 128);
-    spoilt("a probability one more", KH_AM004_REFUSED_MATRIX, matrix, matrix_length, 207, (uint8_t)(matrix[207] + 1));
+    spoilt("a stock of NF", KH_AM004_REFUSED_STOCKS, longest, longest_length, 31, 1);
+    spoilt("a probability one more", KH_AM004_REFUSED_MATRIX, longest, longest_length, 233, (uint8_t)(longest[233] + 1));
     spoilt("367 days", KH_AM004_REFUSED_YEAR, a, length, 207, 367 & 255);
     spoilt("a conversion one more", KH_AM004_REFUSED_CONVERSIONS, a, length, 217, (uint8_t)(a[217] + 1));
     spoilt("fuel of kind 4", KH_AM004_REFUSED_ACTIVITY, a, length, fuel + 2, 4);

@@ -5,7 +5,7 @@
 
 __extension__ typedef unsigned __int128 wide;
 
-static const unsigned stock[12] = { 9130, 13511, 5654, 4821, 0, 8415, 9240, 3986, 4265, 5654, 5654, 0 };
+static const unsigned built_in[12] = { 9130, 13511, 5654, 4821, 0, 8415, 9240, 3986, 4265, 5654, 5654, 0 };
 static const unsigned lost[12] = { 24900, 30900, 0, 34500, 14100, 10000, 41700, 50600, 97200, 116900, 0, 0 };
 
 struct input { const uint8_t *s; size_t n, at; };
@@ -86,7 +86,22 @@ static int activity(struct input *in, int before, uint64_t *grams)
     return 0;
 }
 
-static unsigned factor(int i, int j)
+/* the list of stocks in force: ST where it stands, otherwise the built-in one */
+static int stocks(struct input *in, unsigned stock[12])
+{
+    int fault;
+    memcpy(stock, built_in, sizeof built_in);
+    if (!stands(in, "ST"))
+        return 0;
+    if ((fault = begin(in, "ST", 24)))
+        return fault;
+    for (int i = 0; i < 12; i++)
+        if ((stock[i] = (unsigned)field(in, 2)) > (i == 11 ? 0 : 50000))
+            fault = 11;
+    return fault;
+}
+
+static unsigned factor(const unsigned stock[12], int i, int j)
 {
     return stock[i] > stock[j] && j != 9 && j != 10 ? stock[i] - stock[j] : 0;
 }
@@ -131,7 +146,7 @@ uint32_t plain_reckon(const uint8_t *dossier, size_t dossier_len, uint8_t *resul
 {
     struct input in = { dossier, dossier_len, 0 };
     uint64_t area[2][12], balance[2] = { 0, 0 };
-    unsigned matrix[12][12] = { { 0 } }, factors[12][12], counted[144];
+    unsigned stock[12], matrix[12][12] = { { 0 } }, factors[12][12], counted[144];
     int64_t out[8 * 20 + 4], total = 0;
     wide start[2];
     int fault;
@@ -141,6 +156,8 @@ uint32_t plain_reckon(const uint8_t *dossier, size_t dossier_len, uint8_t *resul
     int option = (int)field(&in, 1), first = (int)field(&in, 2), n = (int)field(&in, 1);
     if (option < 1 || option > 2 || first < 2000 || first > 2200 || n < 1 || n > 20)
         return 3;
+    if ((fault = stocks(&in, stock)))
+        return (uint32_t)fault;
     for (int r = 0; r < 2; r++) {
         if ((fault = table(&in, r ? "DA" : "PA", area[r], 12, &start[r])))
             return (uint32_t)fault;
@@ -152,7 +169,7 @@ uint32_t plain_reckon(const uint8_t *dossier, size_t dossier_len, uint8_t *resul
     for (int i = 0; i < 12; i++) {
         uint64_t row = 0;
         for (int j = 0; j < 12; j++) {
-            factors[i][j] = factor(i, j);
+            factors[i][j] = factor(stock, i, j);
             counted[12 * i + j] = option == 2 || j == 11 ? factors[i][j] : 0;
             if (option == 2)
                 row += matrix[i][j] = (unsigned)field(&in, 4);

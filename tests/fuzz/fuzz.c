@@ -16,7 +16,7 @@ int LLVMFuzzerTestOneInput(const uint8_t *data, size_t size)
     for (size_t k = 0; k <= room; k++)
         result[k] = plain[k] = old[k] = (uint8_t)(k * 167 + size);
     uint32_t number = kh_am004_reckon(data, size, result, room);
-    if (number > KH_AM004_REFUSED_BUFFER || number != plain_reckon(data, size, plain, room))
+    if (number > KH_AM004_REFUSED_STOCKS || number != plain_reckon(data, size, plain, room))
         abort();
     if (memcmp(result, plain, room + 1) || result[room] != old[room] || (number != 0 && memcmp(result, old, room)))
         abort();

@@ -18,7 +18,7 @@ from dossiers import (END, FIELDS, GREATEST, activity, bare, encode, ending, for
                       stops, typical, ways, zeros)
 
 ROOT = pathlib.Path(__file__).resolve().parents[2]
-NUMBERS = {"reckon": range(11), "open": range(6), "year": (0, 1, 2, 6, 7, 8, 9), "close": (0, 10)}
+NUMBERS = {"reckon": range(12), "open": (*range(6), 11), "year": (0, 1, 2, 6, 7, 8, 9), "close": (0, 10)}
 
 
 # Calls on a ledger, as the program ledgertrace takes them
@@ -94,7 +94,7 @@ def call_list(rng):
 
 # Comparing
 
-FAULTS = {"HD": 3, "PA": 4, "DA": 4, "MP": 5, "YR": 6, "CP": 7, "CD": 7, "FU": 8, "VE": 8, "NI": 8, "LI": 8}
+FAULTS = {"HD": 3, "ST": 11, "PA": 4, "DA": 4, "MP": 5, "YR": 6, "CP": 7, "CD": 7, "FU": 8, "VE": 8, "NI": 8, "LI": 8}
 # Each fault in the last record, and after each record but EN: nothing, a byte, another mark.
 ENDINGS = {(number, mark, "nothing") for mark, number in FAULTS.items()} | {
     (number, mark, rest) for mark in FAULTS for number, rest in ((1, "nothing"), (1, "a byte"), (2, "another mark"))}
@@ -114,7 +114,7 @@ class Comparison:
         self.call.argtypes, self.call.restype = (ctypes.c_char_p, ctypes.c_size_t, ctypes.c_char_p, ctypes.c_size_t), ctypes.c_uint32
         self.yearsheet, self.ledgertrace, self.seed, self.rng = yearsheet, ledgertrace, seed, random.Random(seed)
         self.seen, self.sheets, self.kinds = {word: collections.Counter() for word in NUMBERS}, 0, collections.Counter()
-        self.endings, self.signs = set(), collections.Counter()
+        self.endings, self.accepted = set(), collections.Counter()
 
     def fail(self, what, data):
         path = ROOT / "target" / "difference"
@@ -138,7 +138,8 @@ class Comparison:
         self.endings.add((number, *ending(data)))
         if number == 0:
             credited = [figures[-1] for figures in ledger.years]
-            self.signs += collections.Counter({"all": 1, "tonnes": ledger.total >= 10**6, "either sign": min(credited) < 0 < max(credited)})
+            self.accepted += collections.Counter({"all": 1, "tonnes": ledger.total >= 10**6, "either sign": min(credited) < 0 < max(credited),
+                                                  "stocks": data[6:8] == b"ST"})
         for room in lengths:
             old = self.rng.randbytes(room + 8)
             proved, due = ctypes.create_string_buffer(old, len(old)), bytearray(old[:room])
@@ -176,7 +177,7 @@ class Comparison:
     def ends(self):
         """Bytes that end at every kind of place, of a dossier that has a record of each mark."""
         run = [activity(self.rng, mark=mark) for mark in GREATEST]
-        head, years = pieces(sound(self.rng, lambda rng: small(rng) | dict(option=2, activities=0)))
+        head, years = pieces(sound(self.rng, lambda rng: small(rng) | dict(option=2, activities=0, filed=True)))
         records = head + [record for due in years for record in due + run] + [END]
         for mark in FIELDS:
             for data in stops(self.rng, records, mark):
@@ -195,13 +196,14 @@ class Comparison:
         print(f"{sum(self.kinds.values())} dossiers, {buffers} buffers, {self.sheets} sheets and {sum(calls)} calls: all agree, seed {self.seed}")
         for word, numbers in NUMBERS.items():
             print(f"{word}:", ", ".join(f"{number} came {self.seen[word][number]} times" for number in numbers))
-        accepted, tonnes, either = (self.signs[name] for name in ("all", "tonnes", "either sign"))
-        print(f"of {accepted} accepted dossiers {tonnes} had tonnes, {either} years of either sign; {len(self.endings)} kinds of ending")
+        accepted, tonnes, either, stocks = (self.accepted[name] for name in ("all", "tonnes", "either sign", "stocks"))
+        print(f"of {accepted} accepted dossiers {tonnes} had tonnes, {either} years of either sign, {stocks} stocks of their own; "
+              f"{len(self.endings)} kinds of ending")
         for word, numbers in NUMBERS.items():
             if set(numbers) != set(self.seen[word]):
                 sys.exit(f"{word}: numbers {sorted(self.seen[word])} came, not {list(numbers)}; seed {self.seed}")
-        if tonnes < accepted / 7 or either < accepted / 10:
-            sys.exit(f"too few accepted dossiers had tonnes, or years of either sign; seed {self.seed}")
+        if tonnes < accepted / 7 or either < accepted / 10 or stocks < accepted / 5:
+            sys.exit(f"too few accepted dossiers had tonnes, years of either sign, or stocks of their own; seed {self.seed}")
         if not ENDINGS <= self.endings:
             sys.exit(f"these endings never came: {sorted(ENDINGS - self.endings)}; seed {self.seed}")
 

@@ -4,10 +4,11 @@ A dossier is a list of records, a record its mark and its fields.
 """
 import struct
 
-from reckoner import CLASSES, days_of
+from reckoner import CLASSES, STOCK, days_of
 
 LIMIT = 10**12
-FIELDS = {"HD": "BHB", "PA": 12 * "Q", "DA": 12 * "Q", "MP": 144 * "I", "YR": "HH", "CP": 144 * "Q", "CD": 144 * "Q",
+MOST_STOCK = 50000
+FIELDS = {"HD": "BHB", "ST": 12 * "H", "PA": 12 * "Q", "DA": 12 * "Q", "MP": 144 * "I", "YR": "HH", "CP": 144 * "Q", "CD": 144 * "Q",
           "FU": "BQ", "VE": "BIII", "NI": "BBQH", "LI": "BQ", "EN": ""}
 BITS = {"B": 8, "H": 16, "I": 32, "Q": 64}
 WITH_FIELDS = [mark for mark, form in FIELDS.items() if form]
@@ -52,8 +53,9 @@ def matrix(*cells):
     return table(*cells, *((c, c, 1000000 - sum(p for i, _, p in cells if i == c)) for c in CLASSES))
 
 
-def opening(option, first, n, project, belt, probabilities=None):
-    records = [("HD", [option, first, n]), ("PA", project), ("DA", belt)]
+def opening(option, first, n, project, belt, probabilities=None, stocks=None):
+    filed = [("ST", stocks)] if stocks else []
+    records = [("HD", [option, first, n]), *filed, ("PA", project), ("DA", belt)]
     return records + [("MP", probabilities or matrix())] if option == 2 else records
 
 
@@ -100,7 +102,7 @@ def long(rng):
 
 
 def greatest(rng):
-    return dict(option=2, first=2200, n=20, project=LIMIT, belt=LIMIT, activities=60, cells=1, amount=max)
+    return dict(option=2, first=2200, n=20, project=LIMIT, belt=LIMIT, activities=60, cells=1, amount=max, filed=True)
 
 
 def forest(rng):
@@ -137,6 +139,14 @@ def activity(rng, amount=None, mark=None):
     return mark, fields
 
 
+def stocks(rng, amount=None):
+    """A list for ST, of any stocks, with 0, the greatest and the built-in ones among them; now and then the built-in list."""
+    if amount is None and rng.random() < 0.1:
+        return list(STOCK.values())
+    span = 0, MOST_STOCK
+    return [amount(span) if amount else rng.choice((*span, STOCK[c], rng.randint(*span), rng.randint(*span))) for c in CLASSES[:-1]] + [0]
+
+
 def stay_but(rng, units, most):
     """The table in which of each area at most so many millionths turn into another class, most of them into NF."""
     cells = []
@@ -146,8 +156,9 @@ def stay_but(rng, units, most):
     return table(*cells)
 
 
-def made(rng, n, project, belt, activities, option=None, first=None, cells=None, amount=None, lost=None):
-    """lost is what a year's tables lose, in millionths, one of these in each year; without it the tables are at random."""
+def made(rng, n, project, belt, activities, option=None, first=None, cells=None, amount=None, lost=None, filed=None):
+    """lost is what a year's tables lose, in millionths, one of these in each year; without it the tables are at random. filed says
+    whether stocks are; without it they are in a third of the dossiers."""
     def spread(total, count):
         return parts(rng, total, count, cells or rng.choice((1, 3, count)))
 
@@ -157,7 +168,8 @@ def made(rng, n, project, belt, activities, option=None, first=None, cells=None,
     first = first or rng.choice((2000, 2096, 2100, 2200, rng.randint(2000, 2200)))
     rows = stay_but(rng, [1000000] * 12, 100000) if lost else [p for _ in CLASSES for p in spread(1000000, 12)]
     regions = spread(project, 12), spread(belt, 12)
-    records = opening(option or rng.randint(1, 2), first, n, *regions, rows)
+    listed = stocks(rng, None if lost else amount) if filed or filed is None and rng.randrange(3) == 0 else None
+    records = opening(option or rng.randint(1, 2), first, n, *regions, rows, listed)
     for number in range(first, first + n):
         days = days_of(number) if amount and not lost else rng.choice((1, days_of(number), rng.randint(1, 365)))
         run = [activity(rng, amount) for _ in range(activities)]
@@ -206,6 +218,11 @@ def head_edge(rng, records):
     return changed(records, pick(rng, records, ["HD"]), {f: value})
 
 
+def stock_edge(rng, records):
+    f, value = rng.choice(((rng.randrange(11), MOST_STOCK + rng.randint(0, 1)), (rng.randrange(12), 65535), (11, 1), (11, MOST_STOCK)))
+    return changed(records, pick(rng, records, ["ST"]), {f: value})
+
+
 def year_edge(rng, records):
     k = pick(rng, records, ["YR"])
     number = records[k][1][0]
@@ -230,6 +247,13 @@ def misplaced(rng, records):
     """A record left out, twice, or in another's place."""
     j, k = pick(rng, records), pick(rng, records)
     return records[:j] + rng.choice(([], [records[j]] * 2, [records[k]])) + records[j + 1:]
+
+
+def stray_stocks(rng, records):
+    """Stocks, in range or not, before some record or after the last: due after HD where none stand there."""
+    k = rng.choice((1, pick(rng, records), len(records)))
+    extra = [("ST", stocks(rng))]
+    return records[:k] + rng.choice((extra, extra, stock_edge(rng, extra))) + records[k:]
 
 
 def other_years(rng, records):
@@ -302,9 +326,9 @@ def two_faults(rng, records):
     return spoiled(rng, once, rng.choice(ways(once))) if once else b""
 
 
-RECORD_WAYS = {off_by_one: WITH_FIELDS, wrapped: SUMS, head_edge: ["HD"], year_edge: ["YR"], activity_edge: GREATEST, product_edge: ["VE"],
-               misplaced: FIELDS, other_years: ["YR"], crowded: ["CD"]}
-FIELD_WAYS = (off_by_one, wrapped, head_edge, year_edge, activity_edge, product_edge)
+RECORD_WAYS = {off_by_one: WITH_FIELDS, wrapped: SUMS, head_edge: ["HD"], stock_edge: ["ST"], year_edge: ["YR"], activity_edge: GREATEST,
+               product_edge: ["VE"], misplaced: FIELDS, stray_stocks: FIELDS, other_years: ["YR"], crowded: ["CD"]}
+FIELD_WAYS = (off_by_one, wrapped, head_edge, stock_edge, year_edge, activity_edge, product_edge)
 BYTE_WAYS = {cut: FIELDS, stopped: FIELDS, cut_crowd: ["CD"], padded: FIELDS, flipped: FIELDS, other_mark: FIELDS, two_faults: FIELDS}
 
 

@@ -10,7 +10,7 @@ from fractions import Fraction
 CLASSES = "E SE P D B M MR FF FR TP PP NF".split()
 STOCK = dict(zip(CLASSES, (9130, 13511, 5654, 4821, 0, 8415, 9240, 3986, 4265, 5654, 5654, 0)))
 INTO_NON_FOREST = dict(zip(CLASSES, (24900, 30900, 0, 34500, 14100, 10000, 41700, 50600, 97200, 116900, 0, 0)))
-FACTOR = {(i, j): max(STOCK[i] - STOCK[j], 0) if j not in ("TP", "PP") else 0 for i in CLASSES for j in CLASSES}
+PAIRS = [(i, j) for i in CLASSES for j in CLASSES]
 FUEL = {1: 318630, 2: 306999, 3: 310059}
 LIMING = {1: 132, 2: 143, 3: 220}
 NITROGEN = {(1, 1): 1325, (2, 1): 1425, (3, 1): 1225, (1, 2): 625, (2, 2): 725, (3, 2): 525}
@@ -64,11 +64,16 @@ def days_of(year):
 
 
 def by_pair(values):
-    return {(i, j): values[12 * r + c] for r, i in enumerate(CLASSES) for c, j in enumerate(CLASSES)}
+    return dict(zip(PAIRS, values))
+
+
+def factors(stock):
+    """Of a list of stocks, those of ST or the built-in ones (#102)."""
+    return {(i, j): max(stock[i] - stock[j], 0) if j not in ("TP", "PP") else 0 for i, j in PAIRS}
 
 
 def option_one():
-    matrix = {pair: 0 for pair in FACTOR}
+    matrix = dict.fromkeys(PAIRS, 0)
     for i in CLASSES:
         matrix[i, i] = 1000000 - INTO_NON_FOREST[i]
         matrix[i, "NF"] += INTO_NON_FOREST[i]
@@ -114,27 +119,32 @@ class Region:
         self.exact = {c: Fraction(a) for c, a in self.areas.items()}
         self.balance = 0
 
-    def project(self, matrix):
+    def project(self, matrix, factor):
         """The carbon of the year, rounded and exact; the areas become those that the next year starts from."""
-        flows = {(i, j): self.areas[i] * matrix[i, j] // 1000000 for i, j in FACTOR}
-        exact = {(i, j): self.exact[i] * matrix[i, j] / 1000000 for i, j in FACTOR}
+        flows = {(i, j): self.areas[i] * matrix[i, j] // 1000000 for i, j in PAIRS}
+        exact = {(i, j): self.exact[i] * matrix[i, j] / 1000000 for i, j in PAIRS}
         self.balance += sum(self.areas.values()) - sum(flows.values())
         self.areas = {j: sum(flows[i, j] for i in CLASSES) for j in CLASSES}
         self.exact = {j: sum(exact[i, j] for i in CLASSES) for j in CLASSES}
-        return sum(flows[p] * FACTOR[p] for p in FACTOR), sum(exact[p] * FACTOR[p] for p in FACTOR)
+        return sum(flows[p] * factor[p] for p in PAIRS), sum(exact[p] * factor[p] for p in PAIRS)
 
 
 class Ledger:
     """The ledger's calls; each answers its number."""
 
     def __init__(self):
-        self.option, self.first, self.n, self.matrix = 0, 0, 0, {pair: 0 for pair in FACTOR}
+        self.option, self.first, self.n, self.matrix = 0, 0, 0, dict.fromkeys(PAIRS, 0)
+        self.stock, self.factor = dict.fromkeys(CLASSES, 0), dict.fromkeys(PAIRS, 0)
         self.project, self.belt = Region(), Region()
         self.years, self.total, self.exact, self.records = [], 0, Fraction(0), 0
 
     def read_opening(self, cursor):
         option, first, n = cursor.record(b"HD", (1, 2, 1))
         require(option in (1, 2) and 2000 <= first <= 2200 and 1 <= n <= 20, 3)
+        stock = STOCK
+        if cursor.sees((b"ST",)):
+            stock = dict(zip(CLASSES, cursor.record(b"ST", (2,) * 12)))
+            require(max(stock.values()) <= 50000 and stock["NF"] == 0, 11)
         regions = []
         for mark, least in ((b"PA", 1), (b"DA", 0)):
             areas = cursor.record(mark, (8,) * 12)
@@ -146,6 +156,7 @@ class Ledger:
             for i in CLASSES:
                 require(sum(matrix[i, j] for j in CLASSES) == 1000000, 5)
         self.option, self.first, self.n, self.matrix = option, first, n, matrix
+        self.stock, self.factor = stock, factors(stock)
         self.project, self.belt = regions
 
     def read_year(self, cursor):
@@ -157,7 +168,7 @@ class Ledger:
         for mark, region in ((b"CP", self.project), (b"CD", self.belt)):
             table = cursor.record(mark, (8,) * 144)
             require(sum(table) == region.start, 7)
-            counts = {p: f for p, f in FACTOR.items() if self.option == 2 or p[1] == "NF"}
+            counts = {p: f for p, f in self.factor.items() if self.option == 2 or p[1] == "NF"}
             table = by_pair(table)
             sums.append(Fraction(sum(table[p] * f for p, f in counts.items()) * 11, 300))
         records = []
@@ -169,8 +180,8 @@ class Ledger:
     def take(self, read):
         year, days, (project, belt), records = read
         share = Fraction(11 * days, 300 * days_of(year))
-        carbon, carbon_exact = self.project.project(self.matrix)
-        belt_carbon, belt_exact = self.belt.project(self.matrix)
+        carbon, carbon_exact = self.project.project(self.matrix, self.factor)
+        belt_carbon, belt_exact = self.belt.project(self.matrix, self.factor)
         reference, belt_reference = down(carbon * share), down(belt_carbon * share)
         emitted, belt_emitted = up(project), up(belt)
         grams = sum(map(up, records))
@@ -185,9 +196,9 @@ class Ledger:
         self.check()
 
     def bound(self):
-        """What the gap stays below."""
+        """What the gap stays below, by the greatest stock of the list in force (#102)."""
         y = len(self.years)
-        return 65394 * y * (y + 1) + 5 * y + self.records
+        return Fraction("4.84") * max(self.stock.values()) * y * (y + 1) + 5 * y + self.records
 
     def check(self):
         """Demand 3, as far as it stands after the years so far."""

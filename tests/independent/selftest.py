@@ -7,11 +7,15 @@ import sys
 from fractions import Fraction
 
 import reckoner
-from dossiers import case_a, encode, pieces
+from dossiers import areas, case_a, encode, pieces
 
 LITTLE = Fraction(1, 10**30)
-# years, activity records, and what the gap stays below: 65,394 n (n + 1) + 5 n + m, worked out by hand
-BOUNDS = ((0, 0, 0), (1, 0, 130793), (1, 60, 130853), (2, 3, 392377), (20, 0, 27465580), (20, 1200, 27466780))
+# the greatest stock S, years, activity records, and what the gap stays below: 4.84 S n (n + 1) + 5 n + m, worked out by hand; the
+# greatest built-in stock is 13,511
+BOUNDS = [(*given, Fraction(bound)) for *given, bound in (
+    (13511, 0, 0, "0"), (13511, 1, 0, "130791.48"), (13511, 1, 60, "130851.48"), (13511, 2, 3, "392372.44"), (13511, 20, 0, "27465260.8"),
+    (13511, 20, 1200, "27466460.8"), (0, 1, 0, "5"), (0, 2, 3, "13"), (1, 1, 0, "14.68"), (50000, 0, 0, "0"), (50000, 1, 0, "484005"),
+    (50000, 20, 1200, "101641300"))]
 
 
 def holds(ledger):
@@ -22,9 +26,10 @@ def holds(ledger):
     return True
 
 
-def ledger_of(years, records):
-    """A ledger that has so many years and records, with areas of 3,000 units in each class and nothing lost."""
+def ledger_of(years, records, stocks=None):
+    """A ledger that has so many years and records, with areas of 3,000 units in each class and nothing lost; by the built-in stocks or others."""
     ledger = reckoner.Ledger()
+    ledger.stock = dict(zip(reckoner.CLASSES, stocks)) if stocks else reckoner.STOCK
     ledger.years, ledger.records = [(0,) * 8] * years, records
     ledger.exact = Fraction(1, 10)
     ledger.project, ledger.belt = reckoner.Region([3000] * 12), reckoner.Region([3000] * 12)
@@ -37,14 +42,33 @@ def expect(found, due, what):
 
 
 def test_totals():
-    for years, records, bound in BOUNDS[1:]:
-        ledger = ledger_of(years, records)
+    for stock, years, records, bound in (given for given in BOUNDS if given[1]):
+        ledger, which = ledger_of(years, records, areas(M=stock)), f"of stock {stock}, {years} years, {records} records"
         for gap, due, what in ((Fraction(0), True, "the gap is 0"), (-LITTLE, False, "more than the unrounded total is reported"),
-                               (bound - LITTLE, True, f"the gap is just below its bound, {years} years, {records} records"),
-                               (Fraction(bound), False, f"the gap is its bound, {years} years, {records} records")):
+                               (bound - LITTLE, True, f"the gap is just below its bound {which}"), (bound, False, f"the gap is its bound {which}")):
             for total in (0, -7, 10**15):
                 ledger.total, ledger.exact = total, total + gap
                 expect(holds(ledger), due, what)
+
+
+def test_bounds():
+    for stock, years, records, bound in BOUNDS:
+        for c in reckoner.CLASSES[:-1]:
+            lists = [areas(**{c: stock})] + [areas(**{"B": 1, c: stock})] * (stock > 1) + [None] * (stock == 13511)
+            for stocks in lists:
+                found = ledger_of(years, records, stocks).bound()
+                expect(found == bound, True, f"the bound of stock {stock} of {c}, {years} years and {records} records is {found}, not {bound}")
+
+
+def test_stocks():
+    """An opening's bound is by the stocks that it files, the next one's by its own."""
+    head, _ = pieces(case_a())
+    ledger = reckoner.Ledger()
+    for stocks, bound in ((areas(E=50000), "484005"), (None, "130791.48"), (areas(), "5"), (areas(E=1), "14.68")):
+        piece = head[:1] + ([("ST", stocks)] if stocks else []) + head[1:]
+        expect(ledger.open(encode(piece)) == 0, True, "case A is opened")
+        ledger.years = [(0,) * 8]
+        expect(ledger.bound() == Fraction(bound), True, f"the bound of a year by the stocks {stocks} is {bound}")
 
 
 def test_regions():
@@ -105,8 +129,8 @@ def test_rounding():
 
 
 def main():
-    for years, records, bound in BOUNDS:
-        expect(ledger_of(years, records).bound() == bound, True, f"the bound of {years} years and {records} records is {bound}")
+    test_bounds()
+    test_stocks()
     test_totals()
     test_regions()
     test_calls()

@@ -15,14 +15,15 @@ from fractions import Fraction
 
 import reckoner
 from compare import closing, lent, trace
-from dossiers import (END, FIELDS, GREATEST, LIMIT, areas, boundaries, case_a, changed, encode, matrix, opening, pieces, places, stays,
-                      table, year)
+from dossiers import (END, FIELDS, GREATEST, LIMIT, MOST_STOCK, areas, boundaries, case_a, changed, encode, matrix, opening, pieces, places,
+                      stays, table, year)
 
 ROOT = pathlib.Path(__file__).resolve().parents[2]
 FIGURES = "reference project activity belt belt_reference displaced reduction credited total tonnes balance belt_balance".split()
 
 PROJECT, BELT = areas(E=700000, SE=200000, MR=90000, TP=10000), areas(E=50000, FR=30000, NF=20000)
 MATRIX = matrix(("E", "NF", 20000), ("E", "SE", 3000), ("SE", "E", 15000), ("MR", "E", 50000), ("FR", "NF", 97200), ("NF", "E", 1000))
+NEWER = areas(E=10250, SE=12990, P=6100, D=5230, B=1840, M=9012, MR=8777, FF=4120, FR=3905, TP=6033, PP=5871)
 RUN = [("FU", [2, 1234567]), ("VE", [1, 3, 12000, 90]), ("NI", [1, 2, 50000, 4600]), ("LI", [3, 10000])]
 
 
@@ -47,6 +48,11 @@ def emitting(*run, first=2019, days=365):
 def limestone(grams):
     """Lime that emits so many grams of CO2."""
     return "LI", [1, grams * 300 // 132]
+
+
+def filing(stocks, records):
+    """The records with ST after HD."""
+    return [records[0], ("ST", list(stocks)), *records[1:]]
 
 
 def base(option=1, n=1, run=RUN):
@@ -112,6 +118,7 @@ def examples():
 
 def edges():
     yield longest()
+    yield refused(2, "a byte after the longest dossier", longest()[2] + b"\0")
     yield refused(3, "n 21", put(base(), "HD", {2: 21}))
     yield refused(5, "row sum 999,999", put(base(2), "MP", {0: MATRIX[0] - 1}))
     yield refused(5, "row sum 1,000,001", put(base(2), "MP", {143: MATRIX[143] + 1}))
@@ -127,11 +134,12 @@ def edges():
 
 def longest():
     """As many records as there can be, and amounts as great as they can be."""
-    records = opening(2, 2200, 20, areas(SE=LIMIT), areas(SE=LIMIT), matrix(("SE", "NF", 1000000), ("NF", "SE", 1000000)))
+    turned = matrix(("SE", "NF", 1000000), ("NF", "SE", 1000000))
+    records = opening(2, 2200, 20, areas(SE=LIMIT), areas(SE=LIMIT), turned, areas(SE=MOST_STOCK))
     for y in range(20):
         lost = table(("SE", "NF", LIMIT - y), ("SE", "SE", y))
         records += year(2200 + y, reckoner.days_of(2200 + y), lost, lost, *[("VE", [1, 1000, 10000, 100000])] * 60)
-    require(len(encode(records + [END])) == 65062, "the longest dossier has not 65,062 bytes")
+    require(len(encode(records + [END])) == 65088, "the longest dossier has not 65,088 bytes")
     return accepted("n 20, the longest dossier", records + [END])
 
 
@@ -139,7 +147,7 @@ def longest():
 
 def cuts():
     for mark, form in FIELDS.items():
-        records = base(2 if mark == "MP" else 1)
+        records = filing(NEWER, base()) if mark == "ST" else base(2 if mark == "MP" else 1)
         data, (start, end) = encode(records), places(records)[index(records, mark):][:2]
         yield refused(1, f"cut before {mark}", data[:start])
         yield refused(1, f"cut inside the mark {mark}", data[:start + 1])
@@ -156,12 +164,13 @@ def cuts():
 def marks():
     """Another mark wherever one is due, and nothing after it."""
     one, run = base(), [*GREATEST, "YR", "EN"]
-    spots = [("at the start", b"", ["HD"]), ("after HD", before(one, "PA"), ["PA"]), ("after PA", before(one, "DA"), ["DA"]),
+    spots = [("at the start", b"", ["HD"]), ("after HD", before(one, "PA"), ["PA", "ST"]),
+             ("after ST", before(filing(NEWER, one), "PA"), ["PA"]), ("after PA", before(one, "DA"), ["DA"]),
              ("after DA, Option 1", before(one, "YR"), ["YR"]), ("after DA, Option 2", before(base(2), "MP"), ["MP"]),
              ("after MP", before(base(2), "YR"), ["YR"]), ("after YR", before(one, "CP"), ["CP"]), ("after CP", before(one, "CD"), ["CD"]),
              ("after CD", before(one, "FU"), run)]
     for place, data, due in spots:
-        for mark in [mark for mark in (*FIELDS, due[0].lower(), "??") if mark not in due]:
+        for mark in [mark for mark in (*FIELDS, *map(str.lower, due[:2]), "??") if mark not in due]:
             yield refused(2, f"{mark} {place}", data + mark.encode())
     for mark, after in (("FU", "VE"), ("VE", "NI"), ("NI", "LI"), ("LI", "EN")):
         for wrong in ("HD", "CD"):
@@ -306,14 +315,16 @@ def endings():
 
 def orders():
     """The earlier fault counts; within a record the mark, 9, bytes missing, fields."""
-    one, run = base(2), base()
-    for number, mark, records, cells in ((3, "HD", one, {0: 3}), (4, "PA", one, {0: 2**63}), (4, "DA", one, {0: 2**63}),
-                                         (5, "MP", one, {0: 1}), (6, "YR", run, {1: 366}), (7, "CP", run, {0: 2**63}),
+    one, run, filed = base(2), base(), filing(NEWER, base(2))
+    for number, mark, records, cells in ((3, "HD", one, {0: 3}), (11, "ST", filed, {0: 50001}), (4, "PA", one, {0: 2**63}),
+                                         (4, "DA", one, {0: 2**63}), (5, "MP", one, {0: 1}), (6, "YR", run, {1: 366}), (7, "CP", run, {0: 2**63}),
                                          (7, "CD", run, {0: 2**63}), (8, "FU", run, {0: 4})):
         data = fault(number, "", records, mark, cells)[2]
         yield refused(1, f"wrong {mark}, and cut", data[:-1])
         yield refused(number, f"wrong {mark}, then another mark", data + b"??")
     yield refused(3, "n 21, then wrong PA total", put(put(one, "PA", {0: 2**63}), "HD", {2: 21})[:2])
+    yield refused(3, "n 21, then a wrong stock", put(put(filed, "ST", {0: 50001}), "HD", {2: 21})[:2])
+    yield refused(11, "a wrong stock, then wrong PA total", put(put(filed, "ST", {10: 50001}), "PA", {0: 2**63})[:3])
     yield refused(4, "wrong PA total, then wrong DA total", put(put(one, "PA", {0: 2**63}), "DA", {0: 2**63})[:3])
     yield refused(4, "wrong DA total, then wrong MP row", put(put(one, "DA", {0: LIMIT}), "MP", {0: 1})[:4])
     yield refused(5, "wrong MP row, then wrong year", put(put(one, "MP", {0: 1}), "YR", {0: 0})[:5])
@@ -327,7 +338,7 @@ def orders():
     yield refused(6, "a year more than n, then wrong CP total", put(put(two, "HD", {2: 1}), "CP", {0: 0}, 1)[:9])
     for number, data in {1: encode(run)[:-1], 2: encode(run) + b"\0", 3: put(run, "HD", {2: 0})[:1], 4: put(run, "PA", {0: LIMIT})[:2],
                          5: put(one, "MP", {0: 1})[:4], 6: put(run, "YR", {1: 0})[:4], 7: put(run, "CD", {0: 0})[:6],
-                         8: put(run, "LI", {0: 0}), 9: full + RUN[:1]}.items():
+                         8: put(run, "LI", {0: 0}), 9: full + RUN[:1], 11: put(filed, "ST", {11: 1})[:2]}.items():
         yield refused(number, f"{number} comes before 10", data, room=0)
 
 
@@ -428,6 +439,115 @@ def projections():
     yield accepted("project and belt by the same matrix", records, reference=334766666, belt_reference=0)
 
 
+# Stocks that are filed (#102)
+
+def report(records):
+    buffer = bytearray(64 * records[0][1][2] + 32)
+    return reckoner.reckon(encode(records), buffer)[0], buffer
+
+
+def stock_limits():
+    """The greatest stock and its neighbours in each place, big-endian; NF takes 0 alone."""
+    filed = filing(NEWER, base())
+    for k, c in enumerate(reckoner.CLASSES[:-1]):
+        gone = one_year(1, areas(**{c: 1000000}), areas(), table((c, "NF", 1000000)), table())
+        yield accepted(f"stock 50,000 of {c}", filing(areas(**{c: MOST_STOCK}), gone), project=1833333334)
+        for value in (50001, 65535):
+            yield fault(11, f"stock {value} of {c}", filed, "ST", {k: value})
+    for value in (1, 256, 50000, 50001, 65535):
+        yield fault(11, f"stock {value} of NF", filed, "ST", {11: value})
+    gone = one_year(1, areas(E=1000000), areas(), table(("E", "NF", 1000000)), table())
+    for stock, grams in ((0, 0), (1, 36667), (258, 9460000), (32768, 1201493334), (49999, 1833296667)):
+        yield accepted(f"stock {stock} of E", filing(areas(E=stock), gone), project=grams)
+    for name, cells in (("50,001 of E", {0: 50001}), ("50,001 of PP", {10: 50001}), ("1 of NF", {11: 1}),
+                        ("65,535 of all", dict.fromkeys(range(12), -1))):
+        yield refused(11, f"stock {name}, whole dossier", put(filed, "ST", cells))
+    yield refused(11, "stock 50,001 of E, Option 2", put(filing(NEWER, base(2)), "ST", {0: 50001}))
+
+
+def stock_cuts():
+    """ST cut after each of its bytes, and bytes that end with it: 11 is judged where none is missing."""
+    for name, stocks, number in (("sound ST", NEWER, 1), ("wrong ST", [65535] * 12, 11)):
+        data = encode(filing(stocks, base())[:2])
+        for length in range(27):
+            yield refused(number if length == 26 else 1, f"{name}, {length} of its 26 bytes", data[:6 + length])
+    for byte in (b"P", b"S", b"?"):
+        yield refused(1, f"the byte {byte.decode()} after ST", before(filing(NEWER, base()), "PA") + byte)
+        yield refused(1, f"the byte {byte.decode()} after HD", before(base(), "PA") + byte)
+
+
+def stock_places():
+    """ST anywhere but after HD, again, or where another record is due, with what follows it."""
+    for option in (1, 2):
+        records, stocks = base(option), ("ST", NEWER)
+        for k in (0, *range(2, len(records))):
+            yield refused(2, f"ST before {records[k][0]}, Option {option}", records[:k] + [stocks] + records[k:])
+            yield refused(2, f"ST in the place of {records[k][0]}, Option {option}", records[:k] + [stocks] + records[k + 1:])
+        yield refused(2, f"ST after EN, Option {option}", records + [stocks])
+        for name, second in (("again", stocks), ("again, out of range", ("ST", [65535] * 12))):
+            yield refused(2, f"ST {name}, Option {option}", [*records[:1], stocks, second, *records[1:]])
+    yield refused(2, "ST again, cut", encode(filing(NEWER, base())[:2] + [("ST", NEWER)])[:-1])
+    yield refused(1, "ST in the place of PA, and no byte more", encode(filing(NEWER, base())[:2]))
+    yield refused(2, "ST in the place of PA, then DA", filing(NEWER, base()[:1] + base()[2:]))
+    two = base(n=2)
+    yield refused(2, "ST before the second YR", two[:index(two, "YR", 1)] + [("ST", NEWER)] + two[index(two, "YR", 1):])
+
+
+def stock_lists():
+    """Each reckoning by the list in force."""
+    for option in (1, 2):
+        plain, built_in = base(option, 2), filing(reckoner.STOCK.values(), base(option, 2))
+        require(report(built_in) == report(plain), "the built-in stocks, filed, make another report")
+        yield accepted(f"no stocks filed, Option {option}", plain)
+        yield accepted(f"the built-in stocks filed, Option {option}", built_in)
+        yield accepted(f"all stocks 0, Option {option}", filing(areas(), plain), reference=0, project=0, belt=0, belt_reference=0, displaced=0)
+    yield accepted("newer stocks, Option 1", filing(NEWER, base(1, 3)), project=5971185, belt=751667)
+    yield accepted("newer stocks, Option 2", filing(NEWER, base(2, 3)), project=6473519, belt=1677384)
+    yield accepted("case A with stock 50,000 of E", filing(areas(E=MOST_STOCK), case_a()), reference=4565000000, project=1833333334,
+                   reduction=2731348036, credited=2185078428, tonnes=2185, unrounded=Fraction(6555235288, 3))
+    each = [10000 * (k + 1) for k in range(12)]
+    gone = table(*((c, "NF", a) for c, a in zip(reckoner.CLASSES, each)))
+    yield accepted("each class into NF by newer stocks", filing(NEWER, one_year(1, each, each, gone, gone)), project=144164900, belt=144164900)
+    most = [MOST_STOCK] * 11 + [0]
+    yield accepted("each class into NF by stocks of 50,000", filing(most, one_year(1, each, each, gone, gone)), project=1210000000)
+
+
+def stock_orders():
+    """Factors that another list makes positive, or 0."""
+    forest, belt = areas(E=1000000), areas(SE=1000000)
+    turned, back = table(("E", "SE", 1000000)), table(("SE", "E", 1000000))
+    records = one_year(2, forest, belt, turned, back, probabilities=matrix(("E", "SE", 1000000)))
+    yield accepted("E to SE by the built-in stocks", records, reference=0, project=0, belt=160636667)
+    yield accepted("E to SE where SE is below E", filing(areas(E=9000, SE=7000), records), reference=73333333, project=73333334, belt=0)
+    yield accepted("E to SE where they are equal", filing(areas(E=9000, SE=9000), records), reference=0, project=0, belt=0)
+    for c in ("TP", "PP"):
+        records = one_year(2, forest, areas(**{c: 1000000}), table(("E", c, 1000000)), table((c, "NF", 1000000)))
+        yield accepted(f"into {c} and out of it by filed stocks", filing(areas(E=MOST_STOCK, **{c: 600}), records), project=0, belt=22000000)
+    bamboo = areas(B=1000000)
+    gone, kept = table(("B", "NF", 1000000)), stays(bamboo)
+    records = filing(areas(B=1000), one_year(1, bamboo, bamboo, gone, kept))
+    yield accepted("bamboo with a stock", records, reference=517000, project=36666667, belt_reference=517000, belt=0)
+    turned = table(("E", "B", 1000000))
+    for option, grams in ((1, 0), (2, 1833333334)):
+        records = filing(areas(E=MOST_STOCK), one_year(option, forest, forest, turned, turned))
+        yield accepted(f"E to B by filed stocks, Option {option}", records, project=grams, belt=grams)
+
+
+def stock_amounts():
+    """The greatest carbon, and a gap that no list of smaller stocks allows."""
+    vast, turned, gone = areas(MR=LIMIT), matrix(("MR", "NF", 1000000)), table(("MR", "NF", LIMIT))
+    for first, days, reference in ((2000, 365, 1828324225865209), (2000, 366, 1833333333333333), (2019, 365, 1833333333333333)):
+        records = one_year(2, vast, vast, gone, gone, probabilities=turned, first=first, days=days)
+        yield accepted(f"10^12 units of stock 50,000, d {days} in {first}", filing(areas(MR=MOST_STOCK), records), reference=reference,
+                       belt_reference=reference, project=1833333333333334, belt=1833333333333334, displaced=1833333333333334 - reference)
+    high, low = ("E", "SE", "P", "D", "TP", "PP"), ("B", "M", "MR", "FF", "FR", "NF")
+    regions = areas(**dict.fromkeys(high, 999999))
+    lost = table(("E", "NF", 5999994))
+    records = one_year(2, regions, regions, lost, lost, probabilities=matrix(*((i, j, 1) for i in high for j in low)))
+    yield accepted("a gap above the bound of the built-in stocks", filing(areas(**dict.fromkeys(high, MOST_STOCK)), records), reference=0,
+                   project=10999989000, credited=-21999978000, unrounded=Fraction("-21999846000.132"))
+
+
 # Where the bytes end
 
 def record_ends():
@@ -435,7 +555,7 @@ def record_ends():
     above = [vector for section in VECTORS[:VECTORS.index(record_ends)] for vector in section()]
     seen = {data for _, _, data, _, _ in above}
     for label, number, data, room, _ in above:
-        if number in range(3, 9):
+        if number in (*range(3, 9), 11):
             short = next(data[:end] for end, _ in boundaries(data) if reckoner.reckon(data[:end], bytearray(room))[0] == number)
             if short not in seen:
                 seen.add(short)
@@ -465,7 +585,7 @@ def last_marks():
     """Another mark, and nothing after it, at the places that are left."""
     one, two, run = base(), base(n=2), [*GREATEST, "YR", "EN"]
     full = emitting(*[RUN[k % 4] for k in range(60)])
-    spots = [("after HD, Option 2", before(base(2), "PA"), ["PA"]), ("after PA, Option 2", before(base(2), "DA"), ["DA"])]
+    spots = [("after HD, Option 2", before(base(2), "PA"), ["PA", "ST"]), ("after PA, Option 2", before(base(2), "DA"), ["DA"])]
     spots += [(f"after {mark}", before(one, after), run) for mark, after in (("FU", "VE"), ("VE", "NI"), ("NI", "LI"), ("LI", "EN"))]
     spots += [("after 60 records", encode(full[:-1]), run), ("after the first of two years", before(two, "YR", 1), run[:-1]),
               ("after the second YR", before(two, "CP", 1), ["CP"]), ("after the second CP", before(two, "CD", 1), ["CD"]),
@@ -545,6 +665,22 @@ def opened_again():
     yield from (gives(0, dues[0]), gives(0, dues[1]), closes(0, 160), opens(1, head[:-1]), closes(0, 32), gives(6, dues[0]), closes(0, 32))
 
 
+def filed_ledgers():
+    """#102: a ledger's years go by the stocks that its opening filed, and the next ledger's by its own."""
+    stocks, wrong, plain = [("ST", NEWER)], [("ST", [65535] * 12)], pieces(base(2, 2))[0]
+    for option in (1, 2):
+        head, dues = pieces(filing(NEWER, base(option, 2)))
+        for number, data in ((1, head[:2]), (1, encode(head[:2]) + b"P"), (1, encode(head[:2])[:-1]), (2, encode(head[:2]) + b"ST"),
+                             (2, head[:1] + stocks + head[1:]), (2, stocks + head), (2, head[:1] + head[2:3] + stocks + head[3:]),
+                             (2, head + stocks), (11, head[:1] + wrong), (11, head[:1] + wrong + head[2:]), (1, encode(head) + b"S")):
+            yield from (opens(number, data), closes(0, 32), gives(6, dues[0]))
+        yield from (opens(0, head), closes(0, 32))
+        for y, due in enumerate(dues):
+            yield from (gives(2, stocks + due), gives(2, due[:1] + stocks + due[1:]), gives(2, due[:3] + stocks), gives(2, due + wrong))
+            yield from (closes(0, 64 * y + 32), gives(0, due), closes(0, 64 * y + 96), closes(10, 64 * y + 95))
+        yield from (opens(0, plain), closes(0, 32), gives(0, dues[0]), closes(0, 96), opens(11, head[:1] + wrong), gives(6, dues[0]), closes(0, 32))
+
+
 # The calls that every vector's dossier makes
 
 def cut_up(data):
@@ -618,8 +754,9 @@ def second_years():
 # Writing
 
 VECTORS = (examples, edges, cuts, marks, heads, totals, rows, years, conversions, activities, kinds, sixty, endings, orders, buffers,
-           slips, roundings, bad_years, every_class, projections, record_ends, calendar, last_marks, full_buffers)
-CALLS = (empty_ledger, refused_openings, case_a_ledger, three_years, opened_again, every_dossier, second_years)
+           slips, roundings, bad_years, every_class, projections, stock_limits, stock_cuts, stock_places, stock_lists, stock_orders,
+           stock_amounts, record_ends, calendar, last_marks, full_buffers)
+CALLS = (empty_ledger, refused_openings, case_a_ledger, three_years, opened_again, filed_ledgers, every_dossier, second_years)
 
 
 def require(holds, what):

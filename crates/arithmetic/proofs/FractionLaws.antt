@@ -2,11 +2,12 @@
 -- Assumes nothing.
 use mathlib.Core.Path.{_≡_, refl}
 use Prim.Native.Nat.{ℕ, _+_, _*_, _≤_, _<_}
+use native.Mathlib.Nat.{mul-le-mul-right, lt-of-mul-lt-mul-right}
 use native.Mathlib.Omega.{arith}
 use lib.IntN.{ℤ, pos, negsuc, _*ℤ_}
 use Rattle.arithmetic.specs.Rounding.{positivePart}
-use Rattle.arithmetic.specs.Fraction.{Fraction, _≤ᶠ_, _<ᶠ_, _+ᶠ_}
-use Rattle.arithmetic.proofs.IntegerLaws.{above, below, parts-le, parts-lt, le-parts, add-parts, mul-above, mul-below}
+use Rattle.arithmetic.specs.Fraction.{Fraction, _≤ᶠ_, _<ᶠ_, whole, _+ᶠ_, _×ᶠ_}
+use Rattle.arithmetic.proofs.IntegerLaws.{above, below, parts-le, parts-lt, le-parts, lt-parts, add-parts, mul-above, mul-below}
 
 -- the two parts of a fraction's numerator
 abbrev pub over : Fraction → ℕ
@@ -28,6 +29,17 @@ pub ≤ᶠ-parts : {x y : Fraction} → x ≤ᶠ y → over x * y .den + under y
 
 pub parts-<ᶠ : {x y : Fraction} → over x * y .den + under y * x .den < over y * x .den + under x * y .den → x <ᶠ y
 parts-<ᶠ {x} {y} h = record { cross = parts-lt (x .num *ℤ pos (y .den)) (y .num *ℤ pos (x .den)) (omega (arith, h, crossed x y, crossed y x)) }
+
+pub <ᶠ-parts : {x y : Fraction} → x <ᶠ y → over x * y .den + under y * x .den < over y * x .den + under x * y .den
+<ᶠ-parts {x} {y} h = omega (arith, lt-parts (x .num *ℤ pos (y .den)) (y .num *ℤ pos (x .den)) (h .cross), crossed x y, crossed y x)
+
+-- a fraction of which c times is below a is itself below b, where a is at most b times c
+pub times-below : {x : Fraction} (a b c : ℕ) → x ×ᶠ c <ᶠ whole (pos a) → a ≤ b * c → x <ᶠ whole (pos b)
+unfolding whole _×ᶠ_
+times-below {x} a b c h k =
+    let times : over x * c < a * x .den + under x * c = omega (arith, <ᶠ-parts h, mul-above (x .num) c, mul-below (x .num) c) in
+    let once : over x < b * x .den + under x = lt-of-mul-lt-mul-right c (omega (arith, times, mul-le-mul-right (x .den) k)) in
+    parts-<ᶠ (omega (arith, once))
 
 -- a sum, by the parts
 pub sum-parts : (x y : Fraction) → over (x +ᶠ y) + (under x * y .den + under y * x .den) ≡ under (x +ᶠ y) + (over x * y .den + over y * x .den)

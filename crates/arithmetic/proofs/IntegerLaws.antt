@@ -35,6 +35,12 @@ le-parts (pos a) (negsuc b) h = absurd (h .le)
 le-parts (negsuc a) (pos b) h = omega arith
 le-parts (negsuc a) (negsuc b) h = omega (arith, leb→le b a (h .le))
 
+pub lt-parts : (a b : ℤ) → a <ℤ b → above a + below b < above b + below a
+lt-parts (pos a) (pos b) h = omega (arith, ltb→lt a b (h .lt))
+lt-parts (pos a) (negsuc b) h = absurd (h .lt)
+lt-parts (negsuc a) (pos b) h = omega arith
+lt-parts (negsuc a) (negsuc b) h = omega (arith, ltb→lt b a (h .lt))
+
 -- ---- the operations
 sub-parts : (a b : ℕ) → above (subℕ a b) + b ≡ below (subℕ a b) + a
 sub-parts a b = go (ltb a b) (ltb→lt a b) (nltb→le a b)

@@ -6,8 +6,8 @@ use native.Mathlib.Nat.{mul-le-mul-right, le-of-mul-le-mul-right, mul-lt-mul-of-
 use native.Mathlib.Omega.{arith}
 use lib.IntN.{ℤ, pos, negsuc, _+ℤ_, _-ℤ_, negℤ}
 use Rattle.arithmetic.specs.Rounding.{positivePart}
-use Rattle.arithmetic.specs.Fraction.{Fraction, _≤ᶠ_, _<ᶠ_, whole, _+ᶠ_, _-ᶠ_, negᶠ, ifPositive}
-use Rattle.arithmetic.proofs.IntegerLaws.{above, below, add-parts, neg-above, neg-below}
+use Rattle.arithmetic.specs.Fraction.{Fraction, _≤ᶠ_, _<ᶠ_, whole, _+ᶠ_, _-ᶠ_, negᶠ, _×ᶠ_, ifPositive}
+use Rattle.arithmetic.proofs.IntegerLaws.{above, below, add-parts, neg-above, neg-below, mul-above, mul-below}
 use Rattle.arithmetic.proofs.FractionLaws.{over, under, sum-parts, sum-den, parts-≤ᶠ, parts-<ᶠ, positive-above, positive-below}
 use Rattle.arithmetic.proofs.RatioLaws.{Ratio}
 
@@ -81,7 +81,9 @@ gap-den : (z : ℤ) (x : Fraction) → (x -ᶠ whole z) .den ≡ x .den
 unfolding whole _-ᶠ_ negᶠ _+ᶠ_
 gap-den z x = omega arith
 
--- the gap is below b
-pub near-gap : {z : ℤ} {x : Fraction} {l : ℕ} (b : ℕ) → Near z x 0 l → l < 100 * b → x -ᶠ whole z <ᶠ whole (pos b)
-unfolding whole
-near-gap {z} {x} {l} b h k = parts-<ᶠ (simp gap-den (omega (arith, gap-parts z x, h .high, mul-lt-mul-of-pos-right k (x .positive))))
+-- c times the gap is below b
+pub near-gap : {z : ℤ} {x : Fraction} {l : ℕ} (b c : ℕ) → Near z x 0 l → l * c < 100 * b → (x -ᶠ whole z) ×ᶠ c <ᶠ whole (pos b)
+unfolding whole _×ᶠ_
+near-gap {z} {x} {l} b c h k =
+    let parts = ap (λ (n : ℕ). n * (100 * c)) (gap-parts z x) in
+    parts-<ᶠ (simp (gap-den, mul-above, mul-below) (omega (arith, parts, mul-le-mul-right c (h .high), mul-lt-mul-of-pos-right k (x .positive))))

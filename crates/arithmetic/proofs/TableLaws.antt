@@ -8,7 +8,7 @@ use Prim.Native.Nat.{ℕ, zero, suc, _≤_, _<_}
 use native.Mathlib.Nat.{eq-or-lt-of-le, le-of-suc-le-suc}
 use native.Mathlib.Omega.{arith}
 use lib.Dec.{T, leb, leb→le}
-use lib.ListN.{getD}
+use lib.ListN.{length, getD}
 
 both : (a b : Bool) → T (a && b) → T a × T b
 both true true h = (tt, tt)
@@ -39,3 +39,9 @@ unfolding atMost
 entry-le g [] h i = omega arith
 entry-le g (x ∷ xs) h zero = leb→le x g (both (leb x g) (atMost g xs) h .0)
 entry-le g (x ∷ xs) h (suc i) = entry-le g xs (both (leb x g) (atMost g xs) h .1) i
+
+-- at most g at every place of the list, and so at any
+pub places-le : (g : ℕ) (xs : List ℕ) → ((i : ℕ) → i < length xs → getD xs i 0 ≤ g) → (i : ℕ) → getD xs i 0 ≤ g
+places-le g [] h i = omega arith
+places-le g (x ∷ xs) h zero = h 0 (omega arith)
+places-le g (x ∷ xs) h (suc i) = places-le g xs (λ j l. h (suc j) (omega arith)) i

@@ -2,3 +2,4 @@ pub mod RegionLaws
 pub mod CreditLaws
 pub mod YearLaws
 pub mod Assurance
+pub mod BuiltInLaws

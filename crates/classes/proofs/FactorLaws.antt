@@ -1,17 +1,16 @@
--- No emission factor is above the greatest stock.
+-- No emission factor is above a bound of its stocks, nor above the greatest of them; and no built-in stock is above the greatest that may be filed.
 -- Assumes nothing.
 use mathlib.Core.Path.{_≡_, refl}
 use mathlib.Core.Bool.{Bool, true, false, cond, _||_}
-use mathlib.Core.List.{List}
-use Prim.Native.Nat.{ℕ, _-_, _/_, _%_, _≤_}
+use mathlib.Core.List.{List, [], _∷_}
+use Prim.Native.Nat.{ℕ, zero, suc, _-_, _/_, _%_, _≤_}
 use native.Mathlib.Omega.{arith}
 use lib.Dec.{eqb, ltb}
 use lib.ListN.{getD, List·getD-eq-default}
 use borrow.Author.Tests.{ltb-true, ltb-false}
 use Rattle.arithmetic.proofs.SumLaws.{length-listed, getD-listed}
 use Rattle.arithmetic.proofs.TableLaws.{atMost, entry-le}
-use Rattle.classes.specs.Classes.{TP, PP, carbonStocks, emissionFactor}
-use Rattle.classes.specs.Ranges.{greatestStock}
+use Rattle.classes.specs.Classes.{TP, PP, carbonStocks, emissionFactor, greatestIn, greatestStock}
 use Rattle.classes.specs.Matrix.{tableOf}
 
 pub factor-le : (stocks : List ℕ) (S : ℕ) → ((i : ℕ) → getD stocks i 0 ≤ S) → (i j : ℕ) → emissionFactor stocks i j ≤ S
@@ -21,6 +20,16 @@ factor-le stocks S h i j = go (eqb j TP || eqb j PP)
     go : (b : Bool) → cond b 0 (getD stocks i 0 - getD stocks j 0) ≤ S
     go true = omega arith
     go false = omega (arith, h i)
+
+-- the greatest stock of a list: no stock is above it, nor any factor
+pub stock-le : (stocks : List ℕ) (i : ℕ) → getD stocks i 0 ≤ greatestIn stocks
+unfolding greatestIn
+stock-le [] i = omega arith
+stock-le (stock ∷ rest) zero = omega arith
+stock-le (stock ∷ rest) (suc i) = omega (arith, stock-le rest i)
+
+pub greatest-factor : (stocks : List ℕ) (i j : ℕ) → emissionFactor stocks i j ≤ greatestIn stocks
+greatest-factor stocks = factor-le stocks (greatestIn stocks) (stock-le stocks)
 
 pub built-in-le : (i : ℕ) → getD carbonStocks i 0 ≤ greatestStock
 unfolding carbonStocks atMost

@@ -1,20 +1,16 @@
 -- The ladder of ranges: the greatest carbon and grams of each kind, by which every sum, difference and product of a reckoning fits 64 bits.
--- It stands on `greatestArea`, in Classes; each rung holds what those below it make (proofs/RangeLaws); the contracts of all crates cite them.
+-- It stands on `greatestArea` and `greatestStock`, in Classes; each rung holds what those below it make (proofs/RangeLaws); the contracts of all crates cite them.
 -- A rung may have room to spare.
 -- Serves contracts of inner functions and proofs; nothing here has to be believed. Assumes nothing.
 use Prim.Native.Nat.{ℕ}
 
--- hundredths of tC per ha: the greatest carbon stock, that of SE
-abbrev pub greatestStock : ℕ
-greatestStock = 13_511
-
--- carbon units: the greatest area by a factor of 16 bits, 65,535 at most
+-- carbon units: the greatest area by the greatest factor, that from a class of the greatest stock into one of 0
 abbrev pub greatestCarbon : ℕ
-greatestCarbon = 65_535_000_000_000_000
+greatestCarbon = 50_000_000_000_000_000
 
 -- grams that carbon makes, × 11 ÷ 300: a reference level, the emissions of a table
 abbrev pub greatestEmissions : ℕ
-greatestEmissions = 2_402_950_000_000_000
+greatestEmissions = 1_833_333_333_333_334
 
 -- grams of one activity record. (Those of FU, VE, NI and LI are below 4 × 10^12.)
 abbrev pub greatestRecord : ℕ

@@ -26,7 +26,7 @@ pub const PP: usize = 10;
 
 pub const NF: usize = 11;
 
-// Carbon stock by class, hundredths of tC per ha (document 001, table 1).
+// Built-in carbon stock by class, hundredths of tC per ha (document 001, table 1).
 const CARBON_STOCKS: [u64; 12] = [
     9130, // E
     13511, // SE
@@ -107,11 +107,16 @@ impl Grams {
     }
 }
 
-// The built-in carbon stocks.
-pub fn carbon_stocks() -> [u64; 12]
-    ensures { λ r. ⌜ r ≡ carbonStocks ⌝ }
+// Fills a list with the built-in carbon stocks, class by class.
+pub fn fill_carbon_stocks(stocks: &mut [u64; 12])
+    requires { ⌜ length (now stocks) ≡ 12 ⌝ }
+    ensures { λ _. ⌜ now (stocks .exit) ≡ carbonStocks ⌝ }
 {
-    CARBON_STOCKS
+    let mut i: usize = 0;
+    while i < 12 {
+        stocks[i] = CARBON_STOCKS[i];
+        i += 1;
+    }
 }
 
 // The emission factor from class i to class j.

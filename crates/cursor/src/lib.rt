@@ -1,8 +1,8 @@
-// What every record begins with, how a piece ends, and the test of a range.
+// What every record begins with, whether a mark stands at a place, how a piece ends, and the test of a range.
 ghost use mathlib.Core.Path.{_≡_};
 ghost use Prim.Native.Nat.{_+_, _*_, _≤_};
 ghost use lib.ListN.{length, drop};
-ghost use Rattle.dossier.specs.Reader.{begin, endOfPiece, outside as outsideOf};
+ghost use Rattle.dossier.specs.Reader.{begin, is, stands as standsAt, endOfPiece, outside as outsideOf};
 ghost use Rattle.cursor.specs.Answers.{numberSays, begunSays};
 
 // 0 where the mark m stands at a place with n bytes of fields after it, otherwise the number 1 or 2.
@@ -22,6 +22,17 @@ pub fn begun(s: &[u8], at: usize, m: u64, n: usize) -> u8
         return 1;
     }
     0
+}
+
+// Whether the mark m stands at a place.
+pub fn stands(s: &[u8], at: usize, m: u64) -> bool
+    requires { ⌜ at ≤ length (now s) ⌝ }
+    ensures { λ r. ⌜ r ≡ standsAt (is m) (drop at (now (s .entry))) ⌝ }
+{
+    if s.len() - at < 2 {
+        return false;
+    }
+    wire::field16(s, at) == m
 }
 
 // 0 where the bytes end at a place, as a piece must; otherwise the number 1 or 2.

@@ -2,10 +2,13 @@
 -- Assumes nothing.
 use Prim.Native.Nat.{ℕ}
 use mathlib.Core.Path.{_≡_, refl, _∙_, ap, sym}
+use mathlib.Core.Bool.{Bool, true, false, cond}
+use mathlib.Core.Option.{Option, none, some}
 use mathlib.Core.List.{List, [], _++_, append-assoc, append-nil}
 use native.Mathlib.Omega.{arith}
 use Rattle.wire.specs.Bytes.{Bytes}
-use Rattle.dossier.specs.Reader.{accepted, Reader, _>>=_, _>>_, give, endOfPiece}
+use Rattle.dossier.specs.Records.{bytesIfAny}
+use Rattle.dossier.specs.Reader.{accepted, Reader, after, _>>=_, _>>_, give, ifAny, endOfPiece}
 use Rattle.wire.proofs.BytesLaws.{bytes-after}
 use Rattle.dossier.proofs.ReaderLaws.{step, was}
 use Rattle.dossier.proofs.Refusals.{piece-ends, piece-ends-only}
@@ -51,34 +54,35 @@ module _ {B : Type 0} {C : B → Type 0} {P : B → List ℕ → Type 0} where
         (rw m at (l .0), rw m at (l .1), j .2 ∙ rw (append-nil, o, u));
   }
 
-  -- what a value in range has anyhow need not be known
-  pub known : {n : ℕ} {r : Reader B} {e : B → List ℕ} → ((b : B) (t : List ℕ) → P b t → C b) → Exact n C r e P → Exact n (λ b. Unit {0}) r e P
-  known f x = record {
-    reads = λ b t c p. x .reads b t (f b t p) p;
-    only = λ s bs h b t q. let i = x .only s bs h b t q in (tt, i .1, i .2);
-  }
+-- a value that may be absent, by a test of the bytes: none where it fails of what follows, some in range where it holds of its bytes
+abbrev pub OptionThen : {A : Type 0} (there : List ℕ → Bool) (e : A → List ℕ) (P : A → List ℕ → Type 0) → Option A → List ℕ → Type 0
+OptionThen there e P none t = there t ≡ false
+OptionThen there e P (some a) t = P a t × (there (e a ++ t) ≡ true)
 
--- a reader of values under a constructor
-pub tagged : {A B : Type 0} {P : B → List ℕ → Type 0} {r : Reader A} {e′ : A → List ℕ} {P′ : A → List ℕ → Type 0} {e : B → List ℕ} (make : A → B) → ((a : A) → e (make a) ≡ e′ a)
-    → ((a : A) (t : List ℕ) → P (make a) t → P′ a t) → ((a : A) (t : List ℕ) → P′ a t → P (make a) t)
-    → Exact 0 (λ (a : A). Unit {0}) r e′ P′ → Exact 0 (λ b. (a : A) × (make a ≡ b)) (r >>= λ a. give (make a)) e P
-unfolding _>>=_ give
-tagged {A} {B} {P} {r} {e′} {P′} {e} make alike to from x = record {
-  reads = λ b t c p.
-      let k : P (make (c .0)) t = rw (c .1) p in
-      let g : r (e b ++ t) ≡ accepted (c .0) t = rw (← c .1, alike (c .0)) (x .reads (c .0) t tt (to (c .0) t k)) in
-      rw g (ap (λ (y : B). accepted y t) (c .1));
-  only = λ s bs h b t q. go s bs b t (step (r s) (λ a. give (make a)) q);
-}
+pub if-any : {A : Type 0} {r : Reader A} {e : A → List ℕ} {P : A → List ℕ → Type 0} (there : List ℕ → Bool) → Exact 0 Any r e P
+    → Exact 0 Any (ifAny there r) (bytesIfAny e) (OptionThen there e P)
+unfolding ifAny bytesIfAny _>>=_ give
+if-any {A} {r} {e} {P} there x = record { reads = yes; only = λ s bs h m t q. only s bs m t (there s) refl q }
   where
-    go : (s : List ℕ) → Bytes s → (b : B) (t : List ℕ) → (a : A) × (u : List ℕ) × (r s ≡ accepted a u) × (accepted (make a) u ≡ accepted b t)
-        → ((a : A) × (make a ≡ b)) × P b t × (s ≡ e b ++ t)
-    go s bs b t i =
+    yes : (m : Option A) (t : List ℕ) → Any m → OptionThen there e P m t → ifAny there r (bytesIfAny e m ++ t) ≡ accepted m t
+    yes none t c p = rw p
+    yes (some a) t c p = rw (p .1, x .reads a t tt (p .0))
+
+    found : (s : List ℕ) → there s ≡ true → (m : Option A) (t : List ℕ) (a : A) (u : List ℕ) → some a ≡ m → u ≡ t → P a u → s ≡ e a ++ u
+        → Any m × OptionThen there e P m t × (s ≡ bytesIfAny e m ++ t)
+    found s h m t a u i j p k =
+        let l : there (e a ++ t) ≡ true = rw (← j, ← k) h in
+        rw (← i) (tt, (rw j at p, l), k ∙ ap (λ (v : List ℕ). e a ++ v) j)
+
+    only : (s : List ℕ) → Bytes s → (m : Option A) (t : List ℕ) (b : Bool) → there s ≡ b → cond b (after (r s) (λ a. give (some a))) (accepted none s) ≡ accepted m t
+        → Any m × OptionThen there e P m t × (s ≡ bytesIfAny e m ++ t)
+    only s bs m t true h q =
+        let i = step (r s) (λ a. give (some a)) q in
         let j = x .only s bs (omega arith) (i .0) (i .1) (i .2) in
-        let m : make (i .0) ≡ b = was (i .3) .0 in
-        let u : i .1 ≡ t = was (i .3) .1 in
-        let k : P (make (i .0)) t = rw u at (from (i .0) (i .1) (j .1)) in
-        ((i .0, m), rw m at k, j .2 ∙ rw (← m, alike (i .0), u))
+        found s h m t (i .0) (i .1) (was (i .3) .0) (was (i .3) .1) (j .1) (j .2)
+    only s bs m t false h q =
+        let e : s ≡ t = was q .1 in
+        rw (← was q .0) (tt, rw e at h, e)
 
 -- the same encoding, written otherwise
 pub recoded : {B : Type 0} {C : B → Type 0} {P : B → List ℕ → Type 0} {n : ℕ} {r : Reader B} {e e′ : B → List ℕ} → ((b : B) → C b → e b ≡ e′ b) → Exact n C r e P → Exact n C r e′ P

@@ -2,20 +2,20 @@
 -- Assumes nothing.
 use Prim.Native.Nat.{ℕ}
 use mathlib.Core.Path.{_≡_, refl}
-use mathlib.Core.List.{List, [], _∷_, map}
-use lib.ListN.{take, set}
+use mathlib.Core.List.{List, [], _∷_, _++_, map}
+use lib.ListN.{take, set, replicate}
 use Rattle.arithmetic.specs.Sum.{sum, listed}
-use Rattle.classes.specs.Classes.{deforestationProbabilities}
+use Rattle.classes.specs.Classes.{NF, carbonStocks, deforestationProbabilities}
 use Rattle.classes.specs.Matrix.{optionOne, optionOneMatrix}
 use Rattle.activity.specs.declared.Activity.{Activity}
 use Rattle.activity.specs.declared.Activity.the-variants.{Fuel, Vehicles, Nitrogen, Lime}
 use Rattle.wire.specs.Bytes.{number, bytes, numbers, bytesOfEach, joined, total}
 use Rattle.dossier.specs.Marks.{HD}
 use Rattle.dossier.specs.Layouts.{activityBytes}
-use Rattle.dossier.specs.Records.{matrixBytes}
+use Rattle.dossier.specs.Records.{stocksBytes, matrixBytes}
 use Rattle.dossier.specs.Claims.{numberOf}
 use Rattle.dossier.specs.Reader.{_>>=_, _>>_, give, mark, present, begin, field, fields, outside, within, equal}
-use Rattle.dossier.specs.JudgingRecords.{head, rows, matrix, inRange, fieldsOf, activityUnder, activity}
+use Rattle.dossier.specs.JudgingRecords.{head, each, stocks, matrix, inRange, fieldsOf, activityUnder, activity}
 
 -- HD with its three fields
 abbrev headOf : ℕ → ℕ → ℕ → List ℕ
@@ -26,9 +26,21 @@ heads : (numberOf (head (headOf 1 2020 20)) ≡ 0) × (numberOf (head (headOf 1 
 unfolding number bytes joined _>>=_ _>>_ give mark present begin field outside within head
 heads = (refl, refl, refl, refl, refl, refl, refl, refl)
 
+-- ST: the built-in list may be filed, and one of 50,000 in each place but that of NF; 50,001 is 11 and so is 1 for NF, and 1 where ST is cut
+abbrev greatestStocks : List ℕ
+greatestStocks = replicate 11 50_000 ++ (0 ∷ [])
+
+abbrev numberWith : List ℕ → ℕ
+numberWith xs = numberOf (stocks (stocksBytes xs))
+
+filed : (numberWith carbonStocks ≡ 0) × (numberWith greatestStocks ≡ 0) × (numberWith (replicate 12 0) ≡ 0) × (numberWith (set greatestStocks 0 50_001) ≡ 11)
+    × (numberWith (set greatestStocks 10 50_001) ≡ 11) × (numberWith (set greatestStocks NF 1) ≡ 11) × (numberOf (stocks (take 25 (stocksBytes (set greatestStocks 0 50_001)))) ≡ 1)
+unfolding carbonStocks number bytes numbers bytesOfEach joined stocksBytes _>>=_ _>>_ give mark present begin fields outside within equal each stocks
+filed = (refl, refl, refl, refl, refl, refl, refl)
+
 -- MP: each row sums to 1,000,000; a row of 999,999 is 5
 matrices : (numberOf (matrix (matrixBytes optionOneMatrix)) ≡ 0) × (numberOf (matrix (matrixBytes (set optionOneMatrix 0 975099))) ≡ 5)
-unfolding sum listed deforestationProbabilities optionOne optionOneMatrix number bytes numbers bytesOfEach joined matrixBytes _>>=_ _>>_ give mark present begin fields equal rows matrix
+unfolding sum listed deforestationProbabilities optionOne optionOneMatrix number bytes numbers bytesOfEach joined matrixBytes _>>=_ _>>_ give mark present begin fields equal each matrix
 matrices = (refl, refl)
 
 -- each limit of an activity record, and its neighbour out of range; 394 × 501,001 × 5,066 is 10^12 + 4, the least product of VE above its limit

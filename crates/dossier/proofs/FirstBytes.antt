@@ -19,15 +19,15 @@ use Rattle.dossier.proofs.Longest.{longest}
 use Rattle.dossier.proofs.Walk.{openings, some-years}
 use Rattle.dossier.proofs.SettleSteps.{andLeft, SettledBy, AnyCause, settles, bind-alike, bind, given}
 
--- 780 + 20 × 3,216 + 6 bytes, for an opening read from bytes has at most 20 years
-dossier-alike : (s t : List ℕ) → Bytes s → 65106 ≤ length s → dossier (s ++ t) ≡ andLeft t (dossier s)
+-- 806 + 20 × 3,216 + 6 bytes, for an opening read from bytes has at most 20 years
+dossier-alike : (s t : List ℕ) → Bytes s → 65132 ≤ length s → dossier (s ++ t) ≡ andLeft t (dossier s)
 unfolding dossier
 dossier-alike s t bs h = bind-alike _ (openings AnyCause SettledBy settles (λ n h. tt)) 64326 s t h (λ o u e l.
     let n = opening-exact .only s bs (omega arith) o u e .1 .head .count .most in
     bind (some-years AnyCause SettledBy settles (λ n h. tt) _ _ _) (λ ys. given _) .alike u t (omega arith))
 
 -- none so long is accepted
-long-alike : (s t : List ℕ) → Bytes s → 65106 ≤ length s → dossier (s ++ t) ≡ dossier s
+long-alike : (s t : List ℕ) → Bytes s → 65132 ≤ length s → dossier (s ++ t) ≡ dossier s
 long-alike s t bs h = dossier-alike s t bs h ∙ go (dossier s) refl
   where
     go : (j : Judged Dossier) → dossier s ≡ j → andLeft t j ≡ j
@@ -37,7 +37,7 @@ long-alike s t bs h = dossier-alike s t bs h ∙ go (dossier s) refl
 pub first-bytes-settle : (s : List ℕ) → Bytes s → dossier (take 65536 s) ≡ dossier s
 first-bytes-settle s bs = go (ltb 65536 (length s)) (ltb-true _ _) (ltb-false _ _)
   where
-    cut : 65536 ≤ length s → 65106 ≤ length (take 65536 s)
+    cut : 65536 ≤ length s → 65132 ≤ length (take 65536 s)
     cut h = rw (length-take-le 65536 s h) (omega arith)
 
     go : (b : Bool) → (b ≡ true → 65536 < length s) → (b ≡ false → length s ≤ 65536) → dossier (take 65536 s) ≡ dossier s

@@ -3,7 +3,9 @@ pub mod Refusals
 pub mod YearRefusals
 pub mod Exact
 pub mod ExactParts
+pub mod EachLaws
 pub mod RecordLaws
+pub mod StocksLaws
 pub mod MatrixLaws
 pub mod OpeningLaws
 pub mod LayoutLaws
@@ -12,6 +14,7 @@ pub mod RunLaws
 pub mod YearLaws
 pub mod DossierLaws
 pub mod Places
+pub mod StocksPlaces
 pub mod WellFormed
 pub mod Longest
 pub mod CauseLaws

@@ -1,4 +1,4 @@
--- "The longest dossier is 65,062 bytes."
+-- #102: "The longest dossier is now 65,088 bytes."
 -- Assumes nothing.
 use Prim.Native.Nat.{ℕ, zero, suc, _+_, _*_, _≤_}
 use mathlib.Core.Path.{_≡_, refl, sym}
@@ -8,9 +8,10 @@ use native.Mathlib.Omega.{arith}
 use lib.Dec.{lit≤}
 use lib.ListN.{length, length-append, replicate}
 use Rattle.arithmetic.specs.Sum.{listed}
-use Rattle.classes.specs.Classes.{deforestationProbabilities}
+use Rattle.classes.specs.Classes.{carbonStocks, deforestationProbabilities}
 use Rattle.classes.specs.Matrix.{optionOne, optionOneMatrix}
 use Rattle.classes.proofs.CalendarLaws.{days-range}
+use Rattle.classes.proofs.FactorLaws.{built-in-le}
 use Rattle.classes.proofs.MatrixLaws.{option-one-rows}
 use Rattle.activity.specs.declared.Activity.{Activity}
 use Rattle.activity.specs.declared.Activity.the-variants.{Vehicles}
@@ -21,12 +22,14 @@ use Rattle.wire.specs.Bytes.{Bytes, bytes, bytesOfEach, joined, total}
 use Rattle.dossier.specs.Layouts.{activityBytes}
 use Rattle.dossier.specs.Records.{
   headBytes,
+  stocksBytes,
+  StocksFiled,
   areasBytes,
   matrixBytes,
   MatrixUnder,
   Opening,
   OpeningInRange,
-  optionBytes,
+  bytesIfAny,
   openingBytes,
   termsOf,
   stateOf,
@@ -71,20 +74,26 @@ years-length due (y ∷ l) p =
     let k = years-length (next y due) l (p .1) in
     simp length-append (omega arith)
 
-option-length : (option : ℕ) (m : Option (List ℕ)) → MatrixUnder option m → length (optionBytes m) ≤ 578
-unfolding optionBytes matrixBytes joined
-option-length option none p = omega arith
-option-length option (some xs) p = let h = p .1 .count in simp lengths (omega arith)
+stocks-length : (m : Option (List ℕ)) → StocksFiled m → length (bytesIfAny stocksBytes m) ≤ 26
+unfolding bytesIfAny stocksBytes joined
+stocks-length none p = omega arith
+stocks-length (some xs) p = let h = p .twelve in simp lengths (omega arith)
 
-opening-length : (o : Opening) → OpeningInRange o → length (openingBytes o) ≤ 780
+matrix-length : (option : ℕ) (m : Option (List ℕ)) → MatrixUnder option m → length (bytesIfAny matrixBytes m) ≤ 578
+unfolding bytesIfAny matrixBytes joined
+matrix-length option none p = omega arith
+matrix-length option (some xs) p = let h = p .1 .count in simp lengths (omega arith)
+
+opening-length : (o : Opening) → OpeningInRange o → length (openingBytes o) ≤ 806
 unfolding openingBytes headBytes areasBytes joined
 opening-length o p =
-    let m = option-length (o .head .option) (o .matrix) (p .matrix) in
+    let s = stocks-length (o .stocks) (p .stocks) in
+    let m = matrix-length (o .head .option) (o .matrix) (p .matrix) in
     let a = p .projectAreas .twelve in
     let b = p .beltAreas .twelve in
     simp lengths (omega arith)
 
-dossier-length : (d : Dossier) → DossierInRange d → length (dossierBytes d) ≤ 65062
+dossier-length : (d : Dossier) → DossierInRange d → length (dossierBytes d) ≤ 65088
 unfolding dossierBytes joined
 dossier-length d p =
     let o = opening-length (d .opening) (p .opening) in
@@ -94,10 +103,10 @@ dossier-length d p =
     simp (length-append, length-bytes) (omega arith)
 
 -- of accepted bytes
-pub longest : (s : List ℕ) → Bytes s → (d : Dossier) (rest : List ℕ) → dossier s ≡ accepted d rest → length s ≤ 65062
+pub longest : (s : List ℕ) → Bytes s → (d : Dossier) (rest : List ℕ) → dossier s ≡ accepted d rest → length s ≤ 65088
 longest s bs d rest q = let w = dossier-accepted .sound s bs d rest q in rw (w .1) (dossier-length d (w .0))
 
--- ---- and one of that length is accepted: Option 2, 20 years, each with 60 records of VE
+-- ---- and one of that length is accepted: ST, Option 2, 20 years, each with 60 records of VE
 abbrev longestYear : ℕ → Year
 longestYear y = record {
   year = y;
@@ -115,6 +124,7 @@ abbrev pub longestDossier : Dossier
 longestDossier = record {
   opening = record {
     head = record { option = 2; firstYear = 2000; years = 20 };
+    stocks = some carbonStocks;
     projectAreas = 1 ∷ replicate 11 0;
     beltAreas = replicate 12 0;
     matrix = some optionOneMatrix;
@@ -143,12 +153,13 @@ longest-years (suc k) due l p b = (
   longest-years k (next (longestYear (due .state .year)) due) (omega arith) p b,
 )
 
-pub longest-accepted : (dossier (dossierBytes longestDossier) ≡ accepted longestDossier []) × (length (dossierBytes longestDossier) ≡ 65062)
+pub longest-accepted : (dossier (dossierBytes longestDossier) ≡ accepted longestDossier []) × (length (dossierBytes longestDossier) ≡ 65088)
 longest-accepted = (dossier-accepted .complete longestDossier in-range, size)
   where
     opened : OpeningInRange (longestDossier .opening)
-    opened = unfold total listed optionOneMatrix in record {
+    opened = unfold total listed carbonStocks optionOneMatrix in record {
       head = record { options = omega arith; firstYears = omega arith; count = omega arith };
+      stocks = record { twelve = refl; each = λ i h. built-in-le i; nonForest = refl };
       projectAreas = record { twelve = refl; totals = omega arith };
       beltAreas = record { twelve = refl; totals = omega arith };
       matrix = (refl, record { count = refl; rows = option-one-rows });
@@ -157,7 +168,7 @@ longest-accepted = (dossier-accepted .complete longestDossier in-range, size)
     in-range : DossierInRange longestDossier
     in-range = unfold settled termsOf stateOf total in record { opening = opened; count = refl; years = longest-years 20 (settled (longestDossier .opening)) refl refl refl }
 
-    size : length (dossierBytes longestDossier) ≡ 65062
+    size : length (dossierBytes longestDossier) ≡ 65088
     size =
-        unfold listed deforestationProbabilities optionOne optionOneMatrix bytes bytesOfEach joined in
-        unfold headBytes areasBytes matrixBytes optionBytes openingBytes conversionsBytes activityBytes yearBytes dossierBytes in refl
+        unfold listed carbonStocks deforestationProbabilities optionOne optionOneMatrix bytes bytesOfEach joined in
+        unfold headBytes stocksBytes areasBytes matrixBytes bytesIfAny openingBytes conversionsBytes activityBytes yearBytes dossierBytes in refl

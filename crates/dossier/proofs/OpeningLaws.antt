@@ -1,70 +1,84 @@
 -- HD to MP: what is accepted is exactly the encoding of an opening in range.
 -- Assumes nothing.
 use Prim.Native.Nat.{ℕ}
-use mathlib.Core.Path.{_≡_, refl, sym, subst}
-use mathlib.Core.Bool.{Bool, true, false, cond}
+use mathlib.Core.Path.{_≡_, refl, sym}
+use mathlib.Core.Bool.{true, false}
 use mathlib.Core.Option.{Option, none, some}
-use mathlib.Core.List.{List, _++_}
+use mathlib.Core.List.{List, _++_, append-assoc}
 use native.Mathlib.Omega.{arith}
-use borrow.Author.Tests.{eqb-true, eqb-false}
+use borrow.Author.Tests.{eqb-true, eqb-false, eq-eqb, ne-eqb}
 use lib.Dec.{eqb, lit<}
 use Rattle.activity.specs.Activity.{Within}
 use Rattle.wire.specs.Bytes.{joined}
-use Rattle.dossier.specs.Marks.{PA, DA}
-use Rattle.dossier.specs.Records.{Opening, MatrixUnder, OpeningInRange, optionBytes, openingBytes}
-use Rattle.dossier.specs.Reader.{accepted, Reader, _>>=_, give}
-use Rattle.dossier.specs.JudgingRecords.{head, matrix, matrixUnder}
+use Rattle.dossier.specs.Marks.{ST, PA, DA}
+use Rattle.dossier.specs.Records.{StocksInRange, stocksBytes, StocksFiled, areasBytes, MatrixInRange, matrixBytes, Opening, MatrixUnder, OpeningInRange, bytesIfAny, openingBytes}
+use Rattle.dossier.specs.Reader.{stands, is}
+use Rattle.dossier.specs.JudgingRecords.{stocksIfAny, matrixUnder}
 use Rattle.dossier.specs.Judging.{opening}
-use Rattle.dossier.proofs.ReaderLaws.{was}
+use Rattle.dossier.proofs.ReaderLaws.{stands-bytes}
 use Rattle.dossier.proofs.Exact.{Exact}
-use Rattle.dossier.proofs.ExactParts.{Any, sub-then, last-then, tagged, known}
+use Rattle.dossier.proofs.ExactParts.{Any, sub-then, last-then, OptionThen, if-any}
 use Rattle.dossier.proofs.RecordLaws.{head-exact, areas-exact}
+use Rattle.dossier.proofs.StocksLaws.{stocks-exact}
 use Rattle.dossier.proofs.MatrixLaws.{matrix-exact}
 
+-- ST: where it is left out another mark follows
+abbrev StocksThen : Option (List ℕ) → List ℕ → Type 0
+StocksThen = OptionThen (stands (is ST)) stocksBytes (λ (xs t : List ℕ). StocksInRange xs)
+
+pub stocks-if-any-exact : Exact 0 Any stocksIfAny (bytesIfAny stocksBytes) StocksThen
+unfolding stocksIfAny
+stocks-if-any-exact = if-any (stands (is ST)) stocks-exact
+
+filed : (m : Option (List ℕ)) (t : List ℕ) → StocksThen m t → StocksFiled m
+filed none t p = tt
+filed (some xs) t p = p .0
+
+-- it begins with its mark
+pub stocks-begin : (xs t : List ℕ) → stands (is ST) (stocksBytes xs ++ t) ≡ true
+unfolding stocksBytes joined
+stocks-begin xs t = rw append-assoc (stands-bytes (is ST) ST _ (lit< tt))
+
+filed-then : (m : Option (List ℕ)) (t : List ℕ) → StocksFiled m → stands (is ST) t ≡ false → StocksThen m t
+filed-then none t p h = h
+filed-then (some xs) t p h = (p, stocks-begin xs t)
+
 -- MP under Option 2, and none under Option 1
-abbrev Under : ℕ → Reader (Option (List ℕ)) → Type 0
-Under option r = Exact 0 Any r optionBytes (λ (m : Option (List ℕ)) (t : List ℕ). MatrixUnder option m)
+abbrev MatrixThen : ℕ → Option (List ℕ) → List ℕ → Type 0
+MatrixThen option = OptionThen (λ _. eqb option 2) matrixBytes (λ (xs t : List ℕ). MatrixInRange xs)
 
-under-two : (option : ℕ) → option ≡ 2 → Under option (matrix >>= λ xs. give (some xs))
-unfolding optionBytes
-under-two option h = known is-some (tagged some (λ xs. refl) (λ xs t p. p .1) (λ xs t p. (h, p)) matrix-exact)
-  where
-    is-some : (m : Option (List ℕ)) (t : List ℕ) → MatrixUnder option m → (xs : List ℕ) × (some xs ≡ m)
-    is-some none t p = absurd (omega arith)
-    is-some (some xs) t p = (xs, refl)
-
-under-one : (option : ℕ) → option ≡ 1 → Under option (give none)
-unfolding give optionBytes
-under-one option h = record {
-  reads = yes;
-  only = λ s bs l m t q.
-      let e : none ≡ m = was q .0 in
-      let u : s ≡ t = was q .1 in
-      (tt, subst (MatrixUnder option) e h, subst (λ (x : Option (List ℕ)). s ≡ optionBytes x ++ t) e u);
-}
-  where
-    yes : (m : Option (List ℕ)) (t : List ℕ) → Any m → MatrixUnder option m → give none (optionBytes m ++ t) ≡ accepted m t
-    yes none t c p = refl
-    yes (some xs) t c p = absurd (omega (arith, p .0))
-
-under-exact : (option : ℕ) → Within 1 option 2 → Under option (matrixUnder option)
+under-exact : (option : ℕ) → Exact 0 Any (matrixUnder option) (bytesIfAny matrixBytes) (MatrixThen option)
 unfolding matrixUnder
-under-exact option h = go (eqb option 2) (eqb-true option 2) (eqb-false option 2)
-  where
-    one : (option ≡ 2 → ⊥) → option ≡ 1
-    one n = omega arith
+under-exact option = if-any (λ _. eqb option 2) matrix-exact
 
-    go : (x : Bool) → (x ≡ true → option ≡ 2) → (x ≡ false → option ≡ 2 → ⊥) → Under option (cond x (matrix >>= λ xs. give (some xs)) (give none))
-    go true a b = under-two option (a refl)
-    go false a b = under-one option (one (b refl))
+under : (option : ℕ) → Within 1 option 2 → (m : Option (List ℕ)) (t : List ℕ) → MatrixThen option m t → MatrixUnder option m
+under option h none t e = omega (arith, eqb-false option 2 e)
+under option h (some xs) t p = (eqb-true option 2 (p .1), p .0)
+
+under-then : (option : ℕ) (m : Option (List ℕ)) (t : List ℕ) → MatrixUnder option m → MatrixThen option m t
+under-then option none t e = ne-eqb option 2 (λ f. omega arith)
+under-then option (some xs) t p = (p .1, eq-eqb option 2 (p .0))
+
+-- PA begins with another
+pub areas-begin : (areas t : List ℕ) → stands (is ST) (areasBytes PA areas ++ t) ≡ false
+unfolding areasBytes joined
+areas-begin areas t = rw append-assoc (stands-bytes (is ST) PA _ (lit< tt))
 
 -- the whole opening
 pub opening-exact : Exact 0 Any opening openingBytes (λ (o : Opening) (t : List ℕ). OpeningInRange o)
 unfolding opening openingBytes joined
 opening-exact =
     sub-then (λ (o : Opening). o .head) head-exact (λ o t c p. p .head) (λ h u hr.
+    sub-then (λ (o : Opening). o .stocks) stocks-if-any-exact (λ o t c p. filed-then (o .stocks) _ (p .stocks) (rw append-assoc (areas-begin (o .projectAreas) _))) (λ s u sr.
     sub-then (λ (o : Opening). o .projectAreas) (areas-exact PA _ (lit< tt)) (λ o t c p. p .projectAreas) (λ a u ar.
     sub-then (λ (o : Opening). o .beltAreas) (areas-exact DA _ (lit< tt)) (λ o t c p. p .beltAreas) (λ b u br.
-    last-then (λ (o : Opening). o .matrix) (λ m. record { head = h; projectAreas = a; beltAreas = b; matrix = m }) (under-exact (h .option) (hr .options))
-    (λ o t c p. (rw (c .0 .0 .1) at (p .matrix), sym (λ i. record { head = c .0 .0 .1 i; projectAreas = c .0 .1 i; beltAreas = c .1 i; matrix = o .matrix })))
-    (λ m t k. ((((tt, refl), refl), refl), record { head = hr; projectAreas = ar; beltAreas = br; matrix = k }, refl)))))
+    last-then (λ (o : Opening). o .matrix) (λ m. record { head = h; stocks = s; projectAreas = a; beltAreas = b; matrix = m }) (under-exact (h .option))
+    (λ o t c p. (
+      rw (c .0 .0 .0 .1) at (under-then (o .head .option) (o .matrix) t (p .matrix)),
+      sym (λ i. record { head = c .0 .0 .0 .1 i; stocks = c .0 .0 .1 i; projectAreas = c .0 .1 i; beltAreas = c .1 i; matrix = o .matrix }),
+    ))
+    (λ m t k. (
+      ((((tt, refl), refl), refl), refl),
+      record { head = hr; stocks = filed s _ sr; projectAreas = ar; beltAreas = br; matrix = under (h .option) (hr .options) m t k },
+      refl,
+    ))))))

@@ -14,6 +14,7 @@ use Rattle.wire.specs.Bytes.{total}
 use Rattle.dossier.specs.Causes.{
   markNotDue,
   headOutOfRange,
+  stockOutOfRange,
   areaTotalWrong,
   rowSumWrong,
   yearWrong,
@@ -24,11 +25,11 @@ use Rattle.dossier.specs.Causes.{
   yearCauses,
   _∈_,
 }
-use Rattle.dossier.specs.Marks.{YR, EN}
+use Rattle.dossier.specs.Marks.{ST, YR, EN}
 use Rattle.dossier.specs.Layouts.{Made, Layout, layouts}
 use Rattle.dossier.specs.Records.{Due, next}
-use Rattle.dossier.specs.Reader.{Reader, _>>=_, _>>_, give, refuse, mark, is, upon, present, begin, field, fields, outside, within, equal, nothing}
-use Rattle.dossier.specs.JudgingRecords.{head, areas, rows, matrix, matrixUnder, conversions, inRange, madeFrom, fieldsOf, rowUnder, activityMark, activityUnder, activity}
+use Rattle.dossier.specs.Reader.{Reader, _>>=_, _>>_, give, refuse, mark, is, upon, ifAny, present, begin, field, fields, outside, within, equal, nothing}
+use Rattle.dossier.specs.JudgingRecords.{head, each, stocks, stocksIfAny, areas, matrix, matrixUnder, conversions, inRange, madeFrom, fieldsOf, rowUnder, activityMark, activityUnder, activity}
 use Rattle.dossier.specs.Judging.{opening, run, activities, noneLeft, yearRecords, yearLeft, year, end, years}
 use Rattle.dossier.proofs.ReaderLaws.{bind-bind}
 use Rattle.dossier.proofs.CauseLaws.{member, listed}
@@ -75,6 +76,11 @@ module _ (Allowed : ℕ → Type 0) (P : (A : Type 0) → ℕ → Reader A → T
   unfolding equal refuse give
   equals n x y h = tested (eqb x y) (c .give tt) (c .refuse n h)
 
+  all-of : (k : ℕ) {test : ℕ → Reader (Unit {0})} → ((i : ℕ) → P _ 0 (test i)) → P _ 0 (each k test)
+  unfolding each
+  all-of zero x = c .give tt
+  all-of (suc k) x = seq (all-of k x) (x k)
+
   begins : {A : Type 0} {n k : ℕ} {r : Reader A} (m : ℕ) → P _ k r → n ≤ k → P _ (2 + k) (begin m n >> r)
   begins {A} {n} {k} {r} m x h = rw (begin-then m n r) (seq (c .mark m) (c .present x h))
 
@@ -97,20 +103,24 @@ module _ (Allowed : ℕ → Type 0) (P : (A : Type 0) → ℕ → Reader A → T
     unfolding areas
     some-areas m least = a-record _ (c .bind (c .fields 12 8) (λ xs. seq (withins areaTotalWrong _ _ _ (of-opening tt)) (c .give _)))
 
-    some-rows : (k : ℕ) (xs : List ℕ) → P _ 0 (rows k xs)
-    unfolding rows
-    some-rows zero xs = c .give tt
-    some-rows (suc k) xs = seq (some-rows k xs) (equals rowSumWrong _ _ (of-opening tt))
-
     under : (option : ℕ) → P _ 578 (matrixUnder option)
-    unfolding matrixUnder matrix
+    unfolding matrixUnder ifAny matrix
     under option =
-        one-of (eqb option 2) (c .bind (a-record _ (c .bind (c .fields 144 4) (λ xs. seq (some-rows _ xs) (c .give _)))) (λ xs. c .give _))
+        tested (eqb option 2) (c .bind (a-record _ (c .bind (c .fields 144 4) (λ xs. seq (all-of _ (λ i. equals rowSumWrong _ _ (of-opening tt))) (c .give _)))) (λ xs. c .give _))
         (c .more (c .give none) (omega arith))
 
-    pub openings : P _ 780 opening
+    -- ST or, where another mark stands, the two bytes of that
+    if-filed : P _ 26 stocksIfAny
+    unfolding stocksIfAny ifAny stocks upon
+    if-filed =
+        c .choice (is ST) (c .bind (a-record _ (c .bind (c .fields 12 2) (λ xs.
+        seq (all-of _ (λ i. withins stockOutOfRange _ _ _ (of-opening tt))) (seq (equals stockOutOfRange _ _ (of-opening tt)) (c .give _))))) (λ xs. c .give _))
+        (c .more (c .give none) (omega arith)) (omega arith)
+
+    pub openings : P _ 806 opening
     unfolding opening
-    openings = c .bind heads (λ h. c .bind (some-areas _ _) (λ p. c .bind (some-areas _ _) (λ b. c .bind (under (h .option)) (λ m. c .give _))))
+    openings =
+        c .bind heads (λ h. c .bind if-filed (λ s. c .bind (some-areas _ _) (λ p. c .bind (some-areas _ _) (λ b. c .bind (under (h .option)) (λ m. c .give _)))))
 
   -- ---- the years, where their own causes are allowed
   module _ (own : (n : ℕ) → n ∈ yearCauses → Allowed n) where

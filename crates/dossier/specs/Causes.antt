@@ -1,5 +1,5 @@
--- Document 01, "Causes and numbers": the number of each cause, by a name. Above each stands its row of the document's table, cause and number; of
--- all of them the number is returned, no totals, and buffer and ledger are left as they were.
+-- Document 01, "Causes and numbers": the number of each cause, by a name. Above each stands its row of the document's table, cause and number, or
+-- the words of the request that brought it; of all of them the number is returned, no totals, and buffer and ledger are left as they were.
 -- To be believed. Assumes nothing.
 use Prim.Native.Nat.{ℕ}
 use mathlib.Core.Path.{_≡_}
@@ -46,16 +46,20 @@ tooManyActivities = 9
 abbrev pub bufferTooShort : ℕ
 bufferTooShort = 10
 
+-- "11 for an ST field out of range" (#102)
+abbrev pub stockOutOfRange : ℕ
+stockOutOfRange = 11
+
 -- the whole table
 abbrev pub causes : List ℕ
 causes =
     bytesMissing ∷ markNotDue ∷ headOutOfRange ∷ areaTotalWrong ∷ rowSumWrong ∷ yearWrong ∷ conversionTotalWrong ∷ activityOutOfRange ∷ tooManyActivities
-    ∷ bufferTooShort ∷ []
+    ∷ bufferTooShort ∷ stockOutOfRange ∷ []
 
 -- ---- the causes for which each call may refuse
--- HD, PA, DA and MP
+-- HD, ST, PA, DA and MP
 abbrev pub openingCauses : List ℕ
-openingCauses = bytesMissing ∷ markNotDue ∷ headOutOfRange ∷ areaTotalWrong ∷ rowSumWrong ∷ []
+openingCauses = bytesMissing ∷ markNotDue ∷ headOutOfRange ∷ areaTotalWrong ∷ rowSumWrong ∷ stockOutOfRange ∷ []
 
 -- YR, CP, CD and the activity records
 abbrev pub yearCauses : List ℕ

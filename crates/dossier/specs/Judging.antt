@@ -13,16 +13,17 @@ use Rattle.dossier.specs.Causes.{yearWrong, tooManyActivities}
 use Rattle.dossier.specs.Marks.{PA, DA, YR, CP, CD, EN}
 use Rattle.dossier.specs.Records.{Opening, Due, settled, next, Dossier}
 use Rattle.dossier.specs.Reader.{Reader, _>>=_, _>>_, give, refuse, mark, is, upon, begin, field, within, equal, nothing, endOfPiece}
-use Rattle.dossier.specs.JudgingRecords.{head, areas, matrixUnder, conversions, activityMark, activity}
+use Rattle.dossier.specs.JudgingRecords.{head, stocksIfAny, areas, matrixUnder, conversions, activityMark, activity}
 
--- HD, PA, DA, and MP under Option 2
+-- HD, ST if it is there, PA, DA, and MP under Option 2
 unfoldable pub opening : Reader Opening
 opening = do
   h ← head
+  filed ← stocksIfAny
   project ← areas PA 1
   belt ← areas DA 0
   m ← matrixUnder (h .option)
-  give (record { head = h; projectAreas = project; beltAreas = belt; matrix = m })
+  give (record { head = h; stocks = filed; projectAreas = project; beltAreas = belt; matrix = m })
 
 -- a year's activity records: those before are read already, up to `more` may follow. "61st activity record of a year": 9, which its mark alone
 -- decides, before bytes missing

@@ -2,20 +2,21 @@
 -- To be believed. Assumes nothing.
 use Prim.Native.Nat.{ℕ, zero, suc}
 use mathlib.Core.Bool.{Bool, true, false, cond}
-use mathlib.Core.Option.{Option, none, some}
+use mathlib.Core.Option.{Option}
 use mathlib.Core.List.{List, [], _∷_}
 use lib.Dec.{eqb}
+use lib.ListN.{getD}
 use Rattle.arithmetic.specs.Sum.{sum}
-use Rattle.classes.specs.Classes.{classes, greatestArea}
+use Rattle.classes.specs.Classes.{classes, NF, greatestArea, greatestStock}
 use Rattle.classes.specs.Matrix.{entry, million}
 use Rattle.activity.specs.declared.Activity.{Activity}
 use Rattle.activity.specs.Activity.{Range, ranges}
 use Rattle.wire.specs.Bytes.{total}
-use Rattle.dossier.specs.Causes.{markNotDue, headOutOfRange, areaTotalWrong, rowSumWrong, conversionTotalWrong, activityOutOfRange}
-use Rattle.dossier.specs.Marks.{HD, MP}
+use Rattle.dossier.specs.Causes.{markNotDue, headOutOfRange, stockOutOfRange, areaTotalWrong, rowSumWrong, conversionTotalWrong, activityOutOfRange}
+use Rattle.dossier.specs.Marks.{HD, ST, MP}
 use Rattle.dossier.specs.Layouts.{Made, Layout, layouts}
 use Rattle.dossier.specs.Records.{Head}
-use Rattle.dossier.specs.Reader.{Reader, _>>=_, _>>_, give, refuse, is, present, begin, field, fields, within, equal}
+use Rattle.dossier.specs.Reader.{Reader, _>>=_, _>>_, give, refuse, is, stands, ifAny, present, begin, field, fields, within, equal}
 
 -- HD: each field in its range
 unfoldable pub head : Reader Head
@@ -29,6 +30,26 @@ head = do
   within headOutOfRange 1 years 20
   give (record { option = option; firstYear = firstYear; years = years })
 
+-- the first k of these tests, one after the other
+unfoldable pub each : ℕ → (ℕ → Reader (Unit {0})) → Reader (Unit {0})
+each zero test = give tt
+each (suc k) test = do
+  each k test
+  test k
+
+-- ST: each stock in range, and that of NF 0
+unfoldable pub stocks : Reader (List ℕ)
+stocks = do
+  begin ST 24
+  xs ← fields 12 2
+  each classes (λ i. within stockOutOfRange 0 (getD xs i 0) greatestStock)
+  equal stockOutOfRange (getD xs NF 0) 0
+  give xs
+
+-- "optional": ST is read where its mark stands
+unfoldable pub stocksIfAny : Reader (Option (List ℕ))
+stocksIfAny = ifAny (stands (is ST)) stocks
+
 -- PA or DA: its total in range
 unfoldable pub areas : (mark least : ℕ) → Reader (List ℕ)
 areas mark least = do
@@ -37,23 +58,17 @@ areas mark least = do
   within areaTotalWrong least (total xs) greatestArea
   give xs
 
--- MP: the sums of the first k rows
-unfoldable pub rows : ℕ → List ℕ → Reader (Unit {0})
-rows zero xs = give tt
-rows (suc k) xs = do
-  rows k xs
-  equal rowSumWrong (sum classes (entry xs k)) million
-
+-- MP: the sum of each row
 unfoldable pub matrix : Reader (List ℕ)
 matrix = do
   begin MP 576
   xs ← fields 144 4
-  rows classes xs
+  each classes (λ i. equal rowSumWrong (sum classes (entry xs i)) million)
   give xs
 
 -- MP is due exactly under Option 2
 unfoldable pub matrixUnder : ℕ → Reader (Option (List ℕ))
-matrixUnder option = cond (eqb option 2) (do xs ← matrix; give (some xs)) (give none)
+matrixUnder option = ifAny (λ _. eqb option 2) matrix
 
 -- CP or CD: its total the settled one
 unfoldable pub conversions : (mark settledTotal : ℕ) → Reader (List ℕ)

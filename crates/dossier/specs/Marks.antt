@@ -1,10 +1,13 @@
--- Document 01, "The dossier": "Each record has a two-byte mark in ASCII".
+-- Document 01, "The dossier": "Each record has a two-byte mark in ASCII"; ST is of request #102.
 -- To be believed. Assumes nothing.
 use Prim.Native.Nat.{ℕ}
 
 -- the two letters as one number of two bytes
 abbrev pub HD : ℕ
 HD = 0x4844
+
+abbrev pub ST : ℕ
+ST = 0x5354
 
 abbrev pub PA : ℕ
 PA = 0x5041

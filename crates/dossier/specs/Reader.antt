@@ -3,6 +3,7 @@
 -- To be believed. Assumes nothing.
 use Prim.Native.Nat.{ℕ, _*_}
 use mathlib.Core.Bool.{Bool, true, false, cond}
+use mathlib.Core.Option.{Option, none, some}
 use mathlib.Core.List.{List}
 use lib.Dec.{ltb, eqb}
 use lib.ListN.{length, take, drop}
@@ -52,6 +53,10 @@ is m x = eqb x m
 -- goes on with r if a mark of that kind stands here, with q if not
 unfoldable pub upon : {A : Type 0} (kind : ℕ → Bool) (r q : Reader A) → Reader A
 upon kind r q s = cond (stands kind s) (r s) (q s)
+
+-- a value where one is there, and none where not
+unfoldable pub ifAny : {A : Type 0} (there : List ℕ → Bool) → Reader A → Reader (Option A)
+ifAny there r s = cond (there s) ((do a ← r; give (some a)) s) (give none s)
 
 -- "or inside a record": fewer than n bytes are left
 unfoldable pub present : ℕ → Reader (Unit {0})

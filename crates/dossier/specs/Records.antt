@@ -1,14 +1,14 @@
 -- Document 01, "The dossier": each record's fields, their ranges, and its bytes. What YR, CP, CD and the activity records bring is a Year of the
 -- crate figures; an activity record is an Activity of the crate activity, which has its ranges; its bytes are in Layouts.
 -- To be believed. Assumes nothing.
-use Prim.Native.Nat.{ℕ, _≤_}
+use Prim.Native.Nat.{ℕ, _≤_, _<_}
 use mathlib.Core.Path.{_≡_}
 use mathlib.Core.Option.{Option, none, some}
 use mathlib.Core.List.{List, [], _∷_, map}
 use lib.IntN.{pos}
-use lib.ListN.{length, replicate}
+use lib.ListN.{length, getD, replicate}
 use Rattle.classes.specs.declared.AreaUnits.{AreaUnits}
-use Rattle.classes.specs.Classes.{carbonStocks, greatestArea}
+use Rattle.classes.specs.Classes.{classes, NF, carbonStocks, greatestArea, greatestStock}
 use Rattle.classes.specs.Matrix.{RowsSum, optionOneMatrix}
 use Rattle.classes.specs.Calendar.{daysInYear}
 use Rattle.projection.specs.Projection.{openedRegion}
@@ -18,7 +18,7 @@ use Rattle.figures.specs.declared.State.{State}
 use Rattle.figures.specs.Year.{Year}
 use Rattle.figures.specs.Reckoning.{afterYear}
 use Rattle.wire.specs.Bytes.{bytes, bytesOfEach, joined, total}
-use Rattle.dossier.specs.Marks.{HD, PA, DA, MP, YR, CP, CD, EN}
+use Rattle.dossier.specs.Marks.{HD, ST, PA, DA, MP, YR, CP, CD, EN}
 use Rattle.dossier.specs.Layouts.{activityBytes}
 
 -- "HD: option 8 bits (1 or 2), first year 16 bits (2000 to 2200), years n 8 bits (1 to 20)"
@@ -34,6 +34,20 @@ pub record HeadInRange (h : Head) : Type 0 where
 
 unfoldable pub headBytes : Head → List ℕ
 headBytes h = joined (bytes 2 HD ∷ bytes 1 (h .option) ∷ bytes 2 (h .firstYear) ∷ bytes 1 (h .years) ∷ [])
+
+-- #102, "an optional record ST after HD carries twelve stocks of 16 bits, hundredths of tC per ha, each at most 50,000; that of NF must be 0"
+pub record StocksInRange (stocks : List ℕ) : Type 0 where
+  pub twelve : length stocks ≡ classes
+  pub each : (i : ℕ) → i < classes → getD stocks i 0 ≤ greatestStock
+  pub nonForest : getD stocks NF 0 ≡ 0
+
+unfoldable pub stocksBytes : List ℕ → List ℕ
+stocksBytes stocks = joined (bytes 2 ST ∷ bytesOfEach 2 stocks ∷ [])
+
+-- filed or not
+abbrev pub StocksFiled : Option (List ℕ) → Type 0
+StocksFiled none = Unit {0}
+StocksFiled (some stocks) = StocksInRange stocks
 
 -- "PA, DA: 12 areas of 64 bits, project then belt. Each total is at most 10^12; the project's is at least 1, the belt's may be 0" (least)
 pub record AreasInRange (least : ℕ) (areas : List ℕ) : Type 0 where
@@ -54,6 +68,7 @@ matrixBytes matrix = joined (bytes 2 MP ∷ bytesOfEach 4 matrix ∷ [])
 -- what a ledger is opened from, "from HD to MP"
 pub record Opening : Type 0 where
   pub head : Head
+  pub stocks : Option (List ℕ)
   pub projectAreas : List ℕ
   pub beltAreas : List ℕ
   pub matrix : Option (List ℕ)
@@ -65,20 +80,29 @@ MatrixUnder option (some matrix) = (option ≡ 2) × MatrixInRange matrix
 
 pub record OpeningInRange (o : Opening) : Type 0 where
   pub head : HeadInRange (o .head)
+  pub stocks : StocksFiled (o .stocks)
   pub projectAreas : AreasInRange 1 (o .projectAreas)
   pub beltAreas : AreasInRange 0 (o .beltAreas)
   pub matrix : MatrixUnder (o .head .option) (o .matrix)
 
-unfoldable pub optionBytes : Option (List ℕ) → List ℕ
-optionBytes none = []
-optionBytes (some matrix) = matrixBytes matrix
+-- of a record that may be absent
+unfoldable pub bytesIfAny : {A : Type 0} → (A → List ℕ) → Option A → List ℕ
+bytesIfAny encoded none = []
+bytesIfAny encoded (some a) = encoded a
 
 unfoldable pub openingBytes : Opening → List ℕ
-openingBytes o = joined (headBytes (o .head) ∷ areasBytes PA (o .projectAreas) ∷ areasBytes DA (o .beltAreas) ∷ optionBytes (o .matrix) ∷ [])
+openingBytes o =
+    joined (headBytes (o .head) ∷ bytesIfAny stocksBytes (o .stocks)
+    ∷ areasBytes PA (o .projectAreas) ∷ areasBytes DA (o .beltAreas) ∷ bytesIfAny matrixBytes (o .matrix) ∷ [])
 
 -- areas of area units
 abbrev pub units : List ℕ → List AreaUnits
 units xs = map (λ (n : ℕ). record { 0 = n }) xs
+
+-- #102, "Without ST the built-in table holds"
+abbrev pub stocksInUse : Option (List ℕ) → List ℕ
+stocksInUse none = carbonStocks
+stocksInUse (some stocks) = stocks
 
 -- "Option 1 uses the matrix" of table 4
 abbrev pub matrixInUse : Option (List ℕ) → List ℕ
@@ -89,7 +113,7 @@ matrixInUse (some matrix) = matrix
 unfoldable pub termsOf : Opening → Terms
 termsOf o = record {
   option = o .head .option;
-  stocks = carbonStocks;
+  stocks = stocksInUse (o .stocks);
   matrix = matrixInUse (o .matrix);
   start = record { 0 = total (o .projectAreas) };
   beltstart = record { 0 = total (o .beltAreas) };

@@ -8,7 +8,7 @@ use native.Mathlib.Omega.{arith}
 use lib.Dec.{eqb}
 use lib.ListN.{getD}
 use mathlib.Core.List.{List}
-use Rattle.classes.specs.Classes.{NF, emissionFactor}
+use Rattle.classes.specs.Classes.{NF, emissionFactor, greatestStock}
 use Rattle.classes.specs.Matrix.{entry, tableOf}
 use Rattle.classes.proofs.MatrixLaws.{entry-tableOf, tableOf-cong}
 use Rattle.classes.proofs.FactorLaws.{factor-le, table-le}
@@ -30,13 +30,13 @@ counted-le option factor i j = pick (eqb option 1) (eqb j NF)
     pick true false = omega arith
     pick false b = omega arith
 
--- by stocks of 16 bits
-module _ (stocks : List ℕ) (fit : (i : ℕ) → getD stocks i 0 ≤ 65535) where
-  pub small-counted : (option i j : ℕ) → countedFactor option (emissionFactor stocks) i j ≤ 65535
-  small-counted option i j = le-trans (counted-le option (emissionFactor stocks) i j) (factor-le stocks 65535 fit i j)
+-- by stocks of at most the greatest
+module _ (stocks : List ℕ) (fit : (i : ℕ) → getD stocks i 0 ≤ greatestStock) where
+  pub small-counted : (option i j : ℕ) → countedFactor option (emissionFactor stocks) i j ≤ greatestStock
+  small-counted option i j = le-trans (counted-le option (emissionFactor stocks) i j) (factor-le stocks greatestStock fit i j)
 
   pub factors-fit : FactorsFit (tableOf (emissionFactor stocks))
-  factors-fit k = omega (arith, table-le (emissionFactor stocks) 65535 (factor-le stocks 65535 fit) k)
+  factors-fit k = table-le (emissionFactor stocks) greatestStock (factor-le stocks greatestStock fit) k
 
   pub counted-fit : (option : ℕ) → FactorsFit (tableOf (countedFactor option (emissionFactor stocks)))
-  counted-fit option k = omega (arith, table-le (countedFactor option (emissionFactor stocks)) 65535 (small-counted option) k)
+  counted-fit option k = table-le (countedFactor option (emissionFactor stocks)) greatestStock (small-counted option) k

@@ -14,7 +14,7 @@ use Rattle.arithmetic.specs.Rounding.{positivePart}
 use Rattle.arithmetic.proofs.SumLaws.{sum-rows, sum2-le, sum2-mul}
 use Rattle.arithmetic.proofs.RoundingLaws.{ceilDiv-le}
 use Rattle.arithmetic.proofs.IntegerLaws.{above, below, parts-le, le-parts, mag-minus}
-use Rattle.classes.specs.Classes.{classes, greatestArea}
+use Rattle.classes.specs.Classes.{classes, greatestArea, greatestStock}
 use Rattle.classes.specs.Matrix.{entry}
 use Rattle.classes.specs.Calendar.{daysInYear}
 use Rattle.classes.specs.Ranges.{greatestEmissions, greatestActivity, greatestFigure}
@@ -35,18 +35,18 @@ pub monitored-places : (conversions factors : List ℕ) → sum 144 (λ k. getD 
 unfolding monitoredCarbon
 monitored-places conversions factors = sum-rows classes classes (λ k. getD conversions k 0 * getD factors k 0)
 
-pub monitored-small : (conversions : List ℕ) (factor : ℕ → ℕ → ℕ) → SmallTable conversions → ((i j : ℕ) → factor i j ≤ 65535) → SmallCarbon (monitoredCarbon factor conversions)
+pub monitored-small : (conversions : List ℕ) (factor : ℕ → ℕ → ℕ) → SmallTable conversions → ((i j : ℕ) → factor i j ≤ greatestStock) → SmallCarbon (monitoredCarbon factor conversions)
 unfolding monitoredCarbon
 monitored-small conversions factor small most =
-    le-trans (sum2-le classes (λ i j. entry conversions i j * factor i j) (λ i j. entry conversions i j * 65535) (λ i j h h′. mul-le-mul-left (entry conversions i j) (most i j)))
-    (le-trans (le-of-eq (sum2-mul classes (entry conversions) 65535)) (mul-le-mul-right 65535 (rw (sum-rows classes classes (λ k. getD conversions k 0)) at small)))
+    le-trans (sum2-le classes (λ i j. entry conversions i j * factor i j) (λ i j. entry conversions i j * greatestStock) (λ i j h h′. mul-le-mul-left (entry conversions i j) (most i j)))
+    (le-trans (le-of-eq (sum2-mul classes (entry conversions) greatestStock)) (mul-le-mul-right greatestStock (rw (sum-rows classes classes (λ k. getD conversions k 0)) at small)))
 
 -- the projected carbon of a small region is small
-pub projected-small : (region : Region) (matrix : List ℕ) (factor : ℕ → ℕ → ℕ) → SmallRegion region → RowsWithin matrix → ((i j : ℕ) → factor i j ≤ 65535)
+pub projected-small : (region : Region) (matrix : List ℕ) (factor : ℕ → ℕ → ℕ) → SmallRegion region → RowsWithin matrix → ((i j : ℕ) → factor i j ≤ greatestStock)
     → SmallCarbon (projectedCarbon factor (region .areas) matrix)
 projected-small region matrix factor small rows most =
     let all : areaTotal (region .areas) ≤ greatestArea = omega arith in
-    le-trans (projected-carbon-le (region .areas) matrix rows factor 65535 most) (mul-le-mul-right 65535 all)
+    le-trans (projected-carbon-le (region .areas) matrix rows factor greatestStock most) (mul-le-mul-right greatestStock all)
 
 -- days of operation that are not above the days of their calendar year
 pub calendar-days : (days : YearDays) (year : ℕ) → days .calendar ≡ daysInYear year → days .operating ≤ days .calendar → DaysOf days

@@ -1,7 +1,7 @@
 -- MP at a place, from what the code reads there; MP under the options.
 -- Assumes nothing.
 use Prim.Native.Nat.{ℕ, suc, _+_, _*_, _<_}
-use mathlib.Core.Path.{_≡_, refl, _∙_, sym}
+use mathlib.Core.Path.{_≡_, _∙_, sym}
 use mathlib.Core.List.{List, _++_}
 use native.Mathlib.Nat.{add-assoc}
 use native.Mathlib.Omega.{arith}
@@ -17,19 +17,22 @@ use Rattle.wire.specs.Bytes.{numbers, total, fieldAt}
 use Rattle.wire.proofs.BytesLaws.{length-numbers, getD-numbers}
 use Rattle.wire.proofs.NumbersLaws.{numbers-add, total-entries}
 use Rattle.dossier.specs.Marks.{MP}
-use Rattle.dossier.specs.Records.{matrixInUse}
-use Rattle.dossier.specs.Reader.{refused, accepted, _>>=_, _>>_, give, begin}
-use Rattle.dossier.specs.JudgingRecords.{rows, matrix, matrixUnder}
+use Rattle.dossier.specs.Reader.{refused, accepted, Reader, _>>=_, _>>_, give, ifAny, begin, equal}
+use Rattle.dossier.specs.JudgingRecords.{each, matrix, matrixUnder}
 use Rattle.dossier.proofs.ReaderLaws.{equal-yes}
-use Rattle.dossier.proofs.MatrixLaws.{rows-wrong}
+use Rattle.dossier.proofs.EachLaws.{equal-tests, each-wrong}
 use Rattle.cursor.specs.Answers.{begunSays}
 use Rattle.cursor.proofs.AtLaws.{begun-yes, fields-is}
-use Rattle.opening.specs.declared.MatrixAnswer.{MatrixAnswer}
-use Rattle.opening.specs.Answers.{matrixJudged, matrixFacts, matrixOf, matrixUnderJudged, matrixUnderFacts}
+use Rattle.opening.specs.declared.RecordAnswer.{RecordAnswer}
+use Rattle.opening.specs.Answers.{recordSays, settledMatrix}
 
--- the first i rows of MP at a place have the right sum
+-- the test of the i-th row of MP at a place
+abbrev pub rowTest : List ℕ → ℕ → ℕ → Reader (Unit {0})
+rowTest s at i = equal 5 (sum classes (entry (numbers 144 4 (drop (at + 2) s)) i)) million
+
+-- the first i of them pass
 abbrev pub RowsRight : List ℕ → ℕ → ℕ → Type 0
-RowsRight s at i = rows i (numbers 144 4 (drop (at + 2) s)) (drop (at + 578) s) ≡ accepted tt (drop (at + 578) s)
+RowsRight s at i = each i (rowTest s at) (drop (at + 578) s) ≡ accepted tt (drop (at + 578) s)
 
 -- ---- a matrix stored row by row
 pub next-row : (l m n s : List ℕ) (at i : ℕ) → m ≡ sets l 0 (numbers (12 * i) 4 (drop at s)) → n ≡ sets m (12 * i) (numbers 12 4 (drop (at + 48 * i) s))
@@ -60,30 +63,29 @@ module _ (s : List ℕ) (at r : ℕ) (h : begunSays s at r ≡ begin MP 576 (dro
     abbrev read : List ℕ
     read = numbers 144 4 (drop (at + 2) s)
 
-    matrix-at : matrix (drop at s) ≡ (rows 12 read >> give read) (drop (at + 578) s)
+    matrix-at : matrix (drop at s) ≡ (each 12 (rowTest s at) >> give read) (drop (at + 578) s)
     unfolding matrix
     matrix-at = rw (← begun-yes s at MP 576 r h _ z) (simp (fields-is, add-assoc))
 
     module _ (i x : ℕ) (l : i < 12) (e : x ≡ total (numbers 12 4 (drop (at + 2 + 48 * i) s))) where
       pub row-wrong : (x ≡ million → ⊥) → refused 5 ≡ matrix (drop at s)
       unfolding _>>_
-      row-wrong f = rw (matrix-at, rows-wrong 12 read (drop (at + 578) s) i l (λ q. f (e ∙ sym (row-at i s (at + 2) l) ∙ q)))
+      row-wrong f = rw (matrix-at, each-wrong (equal-tests 5 (λ i. sum classes (entry read i)) (λ i. million)) 12 (drop (at + 578) s) i l (λ q. f (e ∙ sym (row-at i s (at + 2) l) ∙ q)))
 
       pub row-right : x ≡ million → RowsRight s at i → RowsRight s at (suc i)
-      unfolding rows _>>_
+      unfolding each _>>_
       row-right f p = rw p (equal-yes _ _ _ _ (row-at i s (at + 2) l ∙ sym e ∙ f))
 
     pub matrix-read : RowsRight s at 12 → accepted read (drop (at + 578) s) ≡ matrix (drop at s)
     unfolding _>>_ give
     matrix-read p = rw (matrix-at, p)
 
--- ---- under the options
-pub option-two : (option : ℕ) (s xs : List ℕ) (a : MatrixAnswer) (u : List ℕ) → option ≡ 2 → matrixJudged s xs a ≡ matrix u → matrixFacts s a
-    → (matrixUnderJudged option s xs a ≡ matrixUnder option u) × matrixUnderFacts option s xs a
-unfolding matrixUnder give _>>=_
-option-two option s xs (MatrixAnswer.Read next) u e q i = rw (eq-eqb option 2 e, ← q) (refl, (i, refl))
-option-two option s xs (MatrixAnswer.Refused n) u e q i = rw (eq-eqb option 2 e, ← q) (refl, tt)
+-- ---- the matrix in use
+pub option-two : (option : ℕ) (s xs : List ℕ) (a : RecordAnswer) (u : List ℕ) → option ≡ 2 → recordSays s xs a ≡ matrix u → recordSays s xs a ≡ settledMatrix option u
+unfolding settledMatrix matrixUnder ifAny give _>>=_
+option-two option s xs (RecordAnswer.Read next) u e q = rw (eq-eqb option 2 e, ← q)
+option-two option s xs (RecordAnswer.Refused n) u e q = rw (eq-eqb option 2 e, ← q)
 
-pub option-one : (option : ℕ) (xs u : List ℕ) → (option ≡ 2 → ⊥) → xs ≡ optionOneMatrix → (accepted (matrixOf option xs) u ≡ matrixUnder option u) × (xs ≡ matrixInUse (matrixOf option xs))
-unfolding matrixUnder give
-option-one option xs u f e = rw (ne-eqb option 2 f) (refl, e)
+pub option-one : (option : ℕ) (xs u : List ℕ) → (option ≡ 2 → ⊥) → xs ≡ optionOneMatrix → accepted xs u ≡ settledMatrix option u
+unfolding settledMatrix matrixUnder ifAny give _>>=_
+option-one option xs u f e = rw (ne-eqb option 2 f, e)

@@ -2,23 +2,21 @@
 -- Serves contracts of inner functions and proofs; nothing here has to be believed. Assumes nothing.
 use Prim.Native.Nat.{ℕ, _≤_}
 use mathlib.Core.Path.{_≡_}
-use mathlib.Core.Bool.{cond}
-use mathlib.Core.Option.{Option, none, some}
+use mathlib.Core.Option.{some}
 use mathlib.Core.List.{List, map}
-use lib.Dec.{eqb}
 use lib.ListN.{length, drop, replicate}
 use Rattle.wire.specs.Bytes.{total}
 use Rattle.classes.specs.declared.AreaUnits.{AreaUnits}
 use Rattle.dossier.specs.Marks.{PA, DA}
 use Rattle.dossier.specs.Reader.{Judged, refused, accepted, Reader, _>>=_, give}
-use Rattle.dossier.specs.Records.{Head, matrixInUse, emptyTerms, emptyState, Due, settled}
-use Rattle.dossier.specs.JudgingRecords.{areas, matrixUnder}
+use Rattle.dossier.specs.Records.{Head, stocksInUse, matrixInUse, emptyTerms, emptyState, Due, settled}
+use Rattle.dossier.specs.JudgingRecords.{stocksIfAny, areas, matrixUnder}
 use Rattle.dossier.specs.Judging.{opening, openingPiece}
 use Rattle.opening.specs.declared.Head.{Head as HeadFields}
 use Rattle.opening.specs.declared.HeadAnswer.{HeadAnswer}
 use Rattle.opening.specs.declared.AreasAnswer.{AreasAnswer}
 use Rattle.opening.specs.declared.Areas.{Areas}
-use Rattle.opening.specs.declared.MatrixAnswer.{MatrixAnswer}
+use Rattle.opening.specs.declared.RecordAnswer.{RecordAnswer}
 use Rattle.opening.specs.declared.OpeningAnswer.{OpeningAnswer}
 use Rattle.opening.specs.declared.Opened.{Opened}
 
@@ -36,6 +34,26 @@ headSays s (HeadAnswer.Refused n) = refused n
 abbrev pub headInside : List ℕ → HeadAnswer → Type 0
 headInside s (HeadAnswer.Read h next) = next ≤ length s
 headInside s (HeadAnswer.Refused n) = Unit {0}
+
+-- ---- a record whose numbers stand in a list beside the answer
+abbrev pub recordSays : List ℕ → List ℕ → RecordAnswer → Judged (List ℕ)
+recordSays s xs (RecordAnswer.Read next) = accepted xs (drop next s)
+recordSays s xs (RecordAnswer.Refused n) = refused n
+
+abbrev pub recordInside : List ℕ → RecordAnswer → Type 0
+recordInside s (RecordAnswer.Read next) = next ≤ length s
+recordInside s (RecordAnswer.Refused n) = Unit {0}
+
+-- the stocks in use, and the matrix in use
+unfoldable pub settledStocks : Reader (List ℕ)
+settledStocks = do
+  filed ← stocksIfAny
+  give (stocksInUse filed)
+
+unfoldable pub settledMatrix : ℕ → Reader (List ℕ)
+settledMatrix option = do
+  m ← matrixUnder option
+  give (matrixInUse m)
 
 -- ---- PA, DA: the areas stand beside the answer, all zero where it is a refusal
 abbrev pub amounts : List AreaUnits → List ℕ
@@ -58,28 +76,6 @@ areasFacts s areas (AreasAnswer.Refused n) = Unit {0}
 
 abbrev pub areasInside : List ℕ → Areas → Type 0
 areasInside s r = areasFacts s (r .areas) (r .answer)
-
--- ---- MP
-abbrev pub matrixJudged : List ℕ → List ℕ → MatrixAnswer → Judged (List ℕ)
-matrixJudged s matrix (MatrixAnswer.Read next) = accepted matrix (drop next s)
-matrixJudged s matrix (MatrixAnswer.Refused n) = refused n
-
-abbrev pub matrixFacts : List ℕ → MatrixAnswer → Type 0
-matrixFacts s (MatrixAnswer.Read next) = next ≤ length s
-matrixFacts s (MatrixAnswer.Refused n) = Unit {0}
-
--- ---- MP under the options: its matrix under Option 2, none under Option 1
-abbrev pub matrixOf : ℕ → List ℕ → Option (List ℕ)
-matrixOf option matrix = cond (eqb option 2) (some matrix) none
-
-abbrev pub matrixUnderJudged : ℕ → List ℕ → List ℕ → MatrixAnswer → Judged (Option (List ℕ))
-matrixUnderJudged option s matrix (MatrixAnswer.Read next) = accepted (matrixOf option matrix) (drop next s)
-matrixUnderJudged option s matrix (MatrixAnswer.Refused n) = refused n
-
--- the next record begins inside, and the matrix held is the one in use
-abbrev pub matrixUnderFacts : ℕ → List ℕ → List ℕ → MatrixAnswer → Type 0
-matrixUnderFacts option s matrix (MatrixAnswer.Read next) = (next ≤ length s) × (matrix ≡ matrixInUse (matrixOf option matrix))
-matrixUnderFacts option s matrix (MatrixAnswer.Refused n) = Unit {0}
 
 -- ---- HD to MP: terms and state stand beside the answer, all zeros where it is a refusal
 abbrev pub noOpening : ℕ → Opened
@@ -112,14 +108,19 @@ settledPiece = do
   o ← openingPiece
   give (settled o)
 
--- from DA on, after HD and PA; from PA on, after HD
-unfoldable pub fromBelt : Head → List ℕ → Reader Due
-fromBelt h project = do
+-- from DA on, after HD and PA, by the stocks in use; from PA on; from ST on, after HD
+unfoldable pub fromBelt : Head → (stocks project : List ℕ) → Reader Due
+fromBelt h stocks project = do
   belt ← areas DA 0
-  m ← matrixUnder (h .option)
-  give (settled (record { head = h; projectAreas = project; beltAreas = belt; matrix = m }))
+  matrix ← settledMatrix (h .option)
+  give (settled (record { head = h; stocks = some stocks; projectAreas = project; beltAreas = belt; matrix = some matrix }))
 
-unfoldable pub fromAreas : Head → Reader Due
-fromAreas h = do
+unfoldable pub fromAreas : Head → List ℕ → Reader Due
+fromAreas h stocks = do
   project ← areas PA 1
-  fromBelt h project
+  fromBelt h stocks project
+
+unfoldable pub fromStocks : Head → Reader Due
+fromStocks h = do
+  stocks ← settledStocks
+  fromAreas h stocks

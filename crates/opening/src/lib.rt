@@ -1,4 +1,4 @@
-// The opening of a dossier or of a ledger: HD, PA, DA and, under Option 2, MP.
+// The opening of a dossier or of a ledger: HD, ST if it is filed, PA, DA and, under Option 2, MP.
 use classes::AreaUnits;
 use classes::Grams;
 use figures::State;
@@ -10,10 +10,12 @@ ghost use lib.ListN.{length, drop};
 ghost use lib.Seq.{sets};
 ghost use Rattle.projection.specs.Projection.{openedRegion};
 ghost use Rattle.wire.specs.Bytes.{numbers, total};
-ghost use Rattle.dossier.specs.JudgingRecords.{head, areas as judgedAreas, matrix as judgedMatrix, matrixUnder};
-ghost use Rattle.opening.specs.Answers.{headFields, headSays, headInside, amounts, noAreas, areasSays, areasInside, matrixJudged, matrixFacts, matrixUnderJudged, matrixUnderFacts, noOpening, openedSays, openedInside, settledOpening, settledPiece, fromBelt, fromAreas};
+ghost use Rattle.dossier.specs.JudgingRecords.{head, stocks as judgedStocks, areas as judgedAreas, matrix as judgedMatrix};
+ghost use Rattle.opening.specs.Answers.{headFields, headSays, headInside, recordSays, recordInside, settledStocks, amounts, noAreas, areasSays, areasInside, settledMatrix, noOpening, openedSays, openedInside, settledOpening, settledPiece, fromBelt, fromAreas, fromStocks};
 
 const HD: u64 = 0x4844;
+
+const ST: u64 = 0x5354;
 
 const PA: u64 = 0x5041;
 
@@ -45,7 +47,8 @@ struct Areas {
     areas: [AreaUnits; 12],
 }
 
-enum MatrixAnswer {
+// Of a record whose numbers are stored in a lent array.
+enum RecordAnswer {
     Read(usize),
     Refused(u8),
 }
@@ -91,6 +94,46 @@ fn read_head(s: &[u8]) -> HeadAnswer
         },
         next: 6,
     }
+}
+
+// ST from at: the lent stocks filled, each tested. A refusal leaves them partly filled.
+fn read_stocks(s: &[u8], at: usize, stocks: &mut [u64; 12]) -> RecordAnswer
+    requires { ⌜ at ≤ length (now s) ⌝ }
+    requires { ⌜ length (now stocks) ≡ 12 ⌝ }
+    ensures { λ r. ⌜ recordSays (now (s .entry)) (now (stocks .exit)) r ≡ judgedStocks (drop at (now (s .entry))) ⌝ }
+    ensures { λ r. ⌜ recordInside (now (s .entry)) r ⌝ }
+{
+    let fault = cursor::begun(s, at, ST, 24);
+    if fault != 0 {
+        return RecordAnswer::Refused(fault);
+    }
+    let mut i: usize = 0;
+    while i < 12 {
+        let stock = wire::field16(s, at + 2 + 2 * i);
+        if 50_000 < stock {
+            return RecordAnswer::Refused(11);
+        }
+        stocks[i] = stock;
+        i += 1;
+    }
+    if stocks[classes::NF] != 0 {
+        return RecordAnswer::Refused(11);
+    }
+    RecordAnswer::Read(at + 26)
+}
+
+// The stocks in use from at, stored in the lent ones: those of ST where it stands, otherwise the built-in ones.
+fn read_stocks_if_any(s: &[u8], at: usize, stocks: &mut [u64; 12]) -> RecordAnswer
+    requires { ⌜ at ≤ length (now s) ⌝ }
+    requires { ⌜ length (now stocks) ≡ 12 ⌝ }
+    ensures { λ r. ⌜ recordSays (now (s .entry)) (now (stocks .exit)) r ≡ settledStocks (drop at (now (s .entry))) ⌝ }
+    ensures { λ r. ⌜ recordInside (now (s .entry)) r ⌝ }
+{
+    if cursor::stands(s, at, ST) {
+        return read_stocks(s, at, stocks);
+    }
+    classes::fill_carbon_stocks(stocks);
+    RecordAnswer::Read(at)
 }
 
 fn no_areas(n: u8) -> Areas
@@ -152,38 +195,38 @@ fn fill_row(matrix: &mut [u64; 144], i: usize, s: &[u8], at: usize) -> u64
 }
 
 // MP from at: the lent matrix filled row by row, each row tested. A refusal leaves it partly filled.
-fn read_matrix(s: &[u8], at: usize, matrix: &mut [u64; 144]) -> MatrixAnswer
+fn read_matrix(s: &[u8], at: usize, matrix: &mut [u64; 144]) -> RecordAnswer
     requires { ⌜ at ≤ length (now s) ⌝ }
     requires { ⌜ length (now matrix) ≡ 144 ⌝ }
-    ensures { λ r. ⌜ matrixJudged (now (s .entry)) (now (matrix .exit)) r ≡ judgedMatrix (drop at (now (s .entry))) ⌝ }
-    ensures { λ r. ⌜ matrixFacts (now (s .entry)) r ⌝ }
+    ensures { λ r. ⌜ recordSays (now (s .entry)) (now (matrix .exit)) r ≡ judgedMatrix (drop at (now (s .entry))) ⌝ }
+    ensures { λ r. ⌜ recordInside (now (s .entry)) r ⌝ }
 {
     let fault = cursor::begun(s, at, MP, 576);
     if fault != 0 {
-        return MatrixAnswer::Refused(fault);
+        return RecordAnswer::Refused(fault);
     }
     let mut i: usize = 0;
     while i < 12 {
         if fill_row(matrix, i, s, at + 2 + 48 * i) != 1000000 {
-            return MatrixAnswer::Refused(5);
+            return RecordAnswer::Refused(5);
         }
         i += 1;
     }
-    MatrixAnswer::Read(at + 578)
+    RecordAnswer::Read(at + 578)
 }
 
 // The matrix in use from at, stored in the lent one: MP under Option 2, table 4's under Option 1.
-fn read_matrix_under(s: &[u8], at: usize, option: u64, matrix: &mut [u64; 144]) -> MatrixAnswer
+fn read_matrix_under(s: &[u8], at: usize, option: u64, matrix: &mut [u64; 144]) -> RecordAnswer
     requires { ⌜ at ≤ length (now s) ⌝ }
     requires { ⌜ length (now matrix) ≡ 144 ⌝ }
-    ensures { λ r. ⌜ matrixUnderJudged option (now (s .entry)) (now (matrix .exit)) r ≡ matrixUnder option (drop at (now (s .entry))) ⌝ }
-    ensures { λ r. ⌜ matrixUnderFacts option (now (s .entry)) (now (matrix .exit)) r ⌝ }
+    ensures { λ r. ⌜ recordSays (now (s .entry)) (now (matrix .exit)) r ≡ settledMatrix option (drop at (now (s .entry))) ⌝ }
+    ensures { λ r. ⌜ recordInside (now (s .entry)) r ⌝ }
 {
     if option == 2 {
         return read_matrix(s, at, matrix);
     }
     classes::fill_option_one(matrix);
-    MatrixAnswer::Read(at)
+    RecordAnswer::Read(at)
 }
 
 // A region with these areas at inception.
@@ -220,10 +263,17 @@ pub fn no_opening(n: u8) -> Opened
     }
 }
 
-// The opening from DA on, after HD and PA, whose areas and their sum are given.
-fn with_belt(s: &[u8], at: usize, h: Head, start: AreaUnits, areas: [AreaUnits; 12]) -> Opened
+// The opening from DA on, after HD, with the stocks in use, and PA, whose areas and their sum are given.
+fn with_belt(
+    s: &[u8],
+    at: usize,
+    h: Head,
+    stocks: [u64; 12],
+    start: AreaUnits,
+    areas: [AreaUnits; 12],
+) -> Opened
     requires { ⌜ (at ≤ length (now s)) × (start .0 ≡ total (amounts areas)) ⌝ }
-    ensures { λ r. ⌜ openedSays (now (s .entry)) r ≡ fromBelt (headFields h) (amounts areas) (drop at (now (s .entry))) ⌝ }
+    ensures { λ r. ⌜ openedSays (now (s .entry)) r ≡ fromBelt (headFields h) stocks (amounts areas) (drop at (now (s .entry))) ⌝ }
     ensures { λ r. ⌜ openedInside (now (s .entry)) r ⌝ }
 {
     let b = read_areas(s, at, DA, 0);
@@ -238,9 +288,8 @@ fn with_belt(s: &[u8], at: usize, h: Head, start: AreaUnits, areas: [AreaUnits; 
             let mut matrix = [0u64; 144];
             let answer = read_matrix_under(s, next, h.option, &mut matrix);
             match answer {
-                MatrixAnswer::Refused(n) => no_opening(n),
-                MatrixAnswer::Read(next) => {
-                    let stocks = classes::carbon_stocks();
+                RecordAnswer::Refused(n) => no_opening(n),
+                RecordAnswer::Read(next) => {
                     let project = at_inception(areas);
                     let belt = at_inception(belt_areas);
                     Opened {
@@ -266,10 +315,10 @@ fn with_belt(s: &[u8], at: usize, h: Head, start: AreaUnits, areas: [AreaUnits; 
     }
 }
 
-// The opening from PA on, after HD.
-fn with_areas(s: &[u8], at: usize, h: Head) -> Opened
+// The opening from PA on, after HD, with the stocks in use.
+fn with_areas(s: &[u8], at: usize, h: Head, stocks: [u64; 12]) -> Opened
     requires { ⌜ at ≤ length (now s) ⌝ }
-    ensures { λ r. ⌜ openedSays (now (s .entry)) r ≡ fromAreas (headFields h) (drop at (now (s .entry))) ⌝ }
+    ensures { λ r. ⌜ openedSays (now (s .entry)) r ≡ fromAreas (headFields h) stocks (drop at (now (s .entry))) ⌝ }
     ensures { λ r. ⌜ openedInside (now (s .entry)) r ⌝ }
 {
     let p = read_areas(s, at, PA, 1);
@@ -277,7 +326,21 @@ fn with_areas(s: &[u8], at: usize, h: Head) -> Opened
     let areas = p.areas;
     match found {
         AreasAnswer::Refused(n) => no_opening(n),
-        AreasAnswer::Read { sum, next } => with_belt(s, next, h, sum, areas),
+        AreasAnswer::Read { sum, next } => with_belt(s, next, h, stocks, sum, areas),
+    }
+}
+
+// The opening after HD, from where ST may stand.
+fn with_stocks(s: &[u8], at: usize, h: Head) -> Opened
+    requires { ⌜ at ≤ length (now s) ⌝ }
+    ensures { λ r. ⌜ openedSays (now (s .entry)) r ≡ fromStocks (headFields h) (drop at (now (s .entry))) ⌝ }
+    ensures { λ r. ⌜ openedInside (now (s .entry)) r ⌝ }
+{
+    let mut stocks = [0u64; 12];
+    let answer = read_stocks_if_any(s, at, &mut stocks);
+    match answer {
+        RecordAnswer::Refused(n) => no_opening(n),
+        RecordAnswer::Read(next) => with_areas(s, next, h, stocks),
     }
 }
 
@@ -288,7 +351,7 @@ pub fn read_opening(s: &[u8]) -> Opened
 {
     match read_head(s) {
         HeadAnswer::Refused(n) => no_opening(n),
-        HeadAnswer::Read { head, next } => with_areas(s, next, head),
+        HeadAnswer::Read { head, next } => with_stocks(s, next, head),
     }
 }
 

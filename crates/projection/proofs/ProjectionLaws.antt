@@ -8,7 +8,7 @@ use native.Mathlib.Omega.{arith}
 use Rattle.arithmetic.specs.Sum.{sum}
 use Rattle.arithmetic.proofs.SumLaws.{sum-cong, sum-le, sum-mul, sum-part, sum-next, sum-swap, term-le, getD-listed}
 use Rattle.classes.specs.declared.AreaUnits.{AreaUnits}
-use Rattle.classes.specs.Classes.{classes}
+use Rattle.classes.specs.Classes.{classes, greatestStock}
 use Rattle.classes.specs.Matrix.{entry, million}
 use Rattle.projection.specs.Projection.{area, areaTotal, flow, nextArea, nextAreas, projectedCarbon, lostArea}
 use Rattle.projection.specs.Inflow.{inflowCarbon}
@@ -30,9 +30,9 @@ pub carbon-columns : (factor : ℕ → ℕ → ℕ) (areas : List AreaUnits) (ma
 unfolding inflowCarbon projectedCarbon
 carbon-columns factor areas matrix = sum-swap classes classes (λ j i. flow areas matrix i j * factor i j)
 
--- factors of 16 bits
-pub fitting-le : (factors : List ℕ) → FactorsFit factors → (i j : ℕ) → entry factors i j ≤ 65535
-fitting-le factors fit i j = omega (arith, fit (12 * i + j))
+-- factors of a table
+pub fitting-le : (factors : List ℕ) → FactorsFit factors → (i j : ℕ) → entry factors i j ≤ greatestStock
+fitting-le factors fit i j = fit (12 * i + j)
 
 module _ (areas : List AreaUnits) (matrix : List ℕ) (rows : RowsWithin matrix) where
   -- the areas after the year and what rounding lost make up the areas before it

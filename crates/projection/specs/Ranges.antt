@@ -4,7 +4,7 @@ use Prim.Native.Nat.{ℕ, _+_, _≤_, _<_}
 use mathlib.Core.List.{List}
 use lib.ListN.{getD}
 use Rattle.arithmetic.specs.Sum.{sum}
-use Rattle.classes.specs.Classes.{classes, greatestArea}
+use Rattle.classes.specs.Classes.{classes, greatestArea, greatestStock}
 use Rattle.classes.specs.Matrix.{entry, million}
 use Rattle.projection.specs.declared.Region.{Region}
 use Rattle.projection.specs.Projection.{areaTotal}
@@ -21,6 +21,6 @@ SmallRegion region = SmallArea (areaTotal (region .areas) + region .balance .0)
 abbrev pub RowsWithin : List ℕ → Type 0
 RowsWithin matrix = (i : ℕ) → i < classes → sum classes (entry matrix i) ≤ million
 
--- a factor fits 16 bits
+-- no factor is above the greatest stock
 abbrev pub FactorsFit : List ℕ → Type 0
-FactorsFit factors = (k : ℕ) → getD factors k 0 < 65_536
+FactorsFit factors = (k : ℕ) → getD factors k 0 ≤ greatestStock

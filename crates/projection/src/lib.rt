@@ -5,6 +5,7 @@ ghost use mathlib.Core.Path.{_≡_};
 ghost use Prim.Native.Nat.{_*_, _/_, _≤_, _<_};
 ghost use Rattle.classes.specs.Matrix.{entry, million};
 ghost use Rattle.projection.specs.Projection.{areaTotal, nextArea};
+ghost use Rattle.classes.specs.Classes.{greatestStock};
 ghost use Rattle.projection.specs.Ranges.{SmallArea, SmallRegion, RowsWithin, FactorsFit};
 ghost use Rattle.projection.specs.Inflow.{inflowCarbon, projectedYear};
 
@@ -36,7 +37,7 @@ fn flow(area: AreaUnits, probability: u64) -> AreaUnits
 
 // The carbon that an area sets free by an emission factor.
 pub fn released(area: AreaUnits, factor: u64) -> CarbonUnits
-    requires { ⌜ SmallArea (area .0) × (factor < 65536) ⌝ }
+    requires { ⌜ SmallArea (area .0) × (factor ≤ greatestStock) ⌝ }
     ensures { λ r. ⌜ r .0 ≡ area .0 * factor ⌝ }
 {
     CarbonUnits(area.0 * factor)

@@ -6,14 +6,12 @@ use mathlib.Core.List.{List}
 use native.Mathlib.Nat.{zero-add}
 use native.Mathlib.Omega.{arith}
 use lib.IntN.{pos}
-use lib.ListN.{length, getD, take, replicate}
+use lib.ListN.{length, getD, take}
 use lib.Seq.{take-all}
 use Rattle.arithmetic.specs.Sum.{sum}
-use Rattle.arithmetic.proofs.TableLaws.{atMost, entry-le}
-use Rattle.classes.specs.Ranges.{greatestStock}
-use Rattle.classes.specs.Classes.{emissionFactor}
+use Rattle.classes.specs.Classes.{greatestIn}
 use Rattle.classes.specs.Matrix.{RowsSum}
-use Rattle.classes.proofs.FactorLaws.{factor-le, built-in-le}
+use Rattle.classes.proofs.FactorLaws.{greatest-factor}
 use Rattle.projection.specs.Projection.{openedRegion}
 use Rattle.figures.specs.declared.Figures.{Figures}
 use Rattle.figures.specs.Figures.{noFigures}
@@ -45,18 +43,16 @@ use Rattle.promises.proofs.CallsLaws.{calls-handed, brought-when, gives
 record Opened (l : Ledger) : Type 0 where
   none : l .given ≡ 0
   nothing : l .state .total .0 ≡ pos 0
-  factors : (i j : ℕ) → emissionFactor (l .terms .stocks) i j ≤ greatestStock
   rows : 1 ≤ l .state .left → RowsSum (l .terms .matrix)
-  reckoned : Reckoned greatestStock 0 0 (l .terms .start .0) (l .terms .beltstart .0) (l .state) (openedᶠ (l .state))
+  reckoned : Reckoned (greatestIn (l .terms .stocks)) 0 0 (l .terms .start .0) (l .terms .beltstart .0) (l .state) (openedᶠ (l .state))
 
 opened-empty : Opened emptyLedger
-unfolding emptyLedger newLedger emptyTerms atMost
+unfolding emptyLedger newLedger emptyTerms
 opened-empty = record {
   none = refl;
   nothing = unfold emptyState in refl;
-  factors = factor-le (replicate 12 0) greatestStock (entry-le greatestStock (replicate 12 0) tt);
   rows = λ h. unfold emptyState in absurd (omega arith);
-  reckoned = unfold emptyState openedRegion sum in opened-reckoned greatestStock emptyState refl refl refl;
+  reckoned = unfold emptyState openedRegion sum in opened-reckoned _ emptyState refl refl refl;
 }
 
 opened-opening : (o : Opening) → OpeningInRange o → Opened (openedLedger o)
@@ -64,10 +60,9 @@ unfolding openedLedger newLedger termsOf
 opened-opening o h = record {
   none = refl;
   nothing = unfold stateOf in refl;
-  factors = factor-le _ greatestStock built-in-le;
   rows = λ k. in-use-rows (o .head .option) (o .matrix) (h .matrix);
   reckoned = unfold stateOf openedRegion in
-      rw (← units-total (o .projectAreas) (h .projectAreas .twelve), ← units-total (o .beltAreas) (h .beltAreas .twelve)) (opened-reckoned greatestStock (stateOf o) refl refl refl);
+      rw (← units-total (o .projectAreas) (h .projectAreas .twelve), ← units-total (o .beltAreas) (h .beltAreas .twelve)) (opened-reckoned _ (stateOf o) refl refl refl);
 }
 
 opening-opened : (piece : List ℕ) → Bytes piece → Opened (openCall piece .ledger)
@@ -96,8 +91,8 @@ module _ (l : Ledger) (o : Opened l) (k : LedgerKept l) (ys : List Year) (inRang
   kept-is : LedgerKept after
   kept-is = years-kept l k ys inRange
 
-  assured : Assured (length ys) (recordCount ys) (l .terms .start .0) (l .terms .beltstart .0) (after .state) afterᶠ
-  assured = reckoned-assured _ _ _ _ _ _ (simp zero-add at (years-reckoned greatestStock ys l (o .factors) (o .rows) inRange 0 0 _ _ _ (o .reckoned)))
+  assured : Assured (greatestIn (l .terms .stocks)) (length ys) (recordCount ys) (l .terms .start .0) (l .terms .beltstart .0) (after .state) afterᶠ
+  assured = reckoned-assured _ _ _ _ _ _ _ (simp zero-add at (years-reckoned _ ys l (greatest-factor (l .terms .stocks)) (o .rows) inRange 0 0 _ _ _ (o .reckoned)))
 
   module _ (buffer : List ℕ) (h : 64 * length ys + 32 ≤ length buffer) where
     abbrev closed : List ℕ

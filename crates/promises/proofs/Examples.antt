@@ -16,10 +16,10 @@ use Rattle.figures.specs.Reckoning.{regionReference, tableEmissions, yearFigure
 use Rattle.assurance.specs.Unrounded.{openedᶠ, flowᶠ, carbonᶠ, referenceᶠ, emissionsᶠ, activityᶠ, displacedᶠ, reductionᶠ, creditedᶠ, afterYearᶠ, afterYearsᶠ}
 use Rattle.wire.specs.Bytes.{number, bytes, numbers, bytesOfEach, joined, total, fieldAt}
 use Rattle.wire.specs.Signed.{twosComplement, figureBytes, figuresBytes, written, signed, figureAt}
-use Rattle.dossier.specs.Records.{headBytes, areasBytes, optionBytes, openingBytes, termsOf, stateOf, settled, next, conversionsBytes, yearBytes, dossierBytes}
+use Rattle.dossier.specs.Records.{headBytes, areasBytes, bytesIfAny, openingBytes, termsOf, stateOf, settled, next, conversionsBytes, yearBytes, dossierBytes}
 use Rattle.dossier.specs.Layouts.{activityBytes}
-use Rattle.dossier.specs.Reader.{_>>=_, _>>_, give, mark, stands, upon, present, begin, field, fields, outside, within, equal, nothing}
-use Rattle.dossier.specs.JudgingRecords.{head, areas, matrixUnder, conversions, inRange, fieldsOf, activityMark, activityUnder, activity}
+use Rattle.dossier.specs.Reader.{_>>=_, _>>_, give, mark, stands, upon, ifAny, present, begin, field, fields, outside, within, equal, nothing}
+use Rattle.dossier.specs.JudgingRecords.{head, stocksIfAny, areas, matrixUnder, conversions, inRange, fieldsOf, activityMark, activityUnder, activity}
 use Rattle.dossier.specs.Judging.{opening, run, activities, yearRecords, yearLeft, year, end, years, dossier}
 use Rattle.report.specs.Report.{eights, reported}
 use Rattle.reckoner.specs.Ledger.{newLedger, openedLedger, dueOf, givenYear, givenYears, ledgerOf, report}
@@ -32,9 +32,9 @@ use Rattle.promises.specs.Examples.{caseA, bufferA, threeUnits, Example,
 pub examples-hold : map (λ (e : Example). e .given) examples ≡ map (λ (e : Example). e .stated) examples
 unfolding examples caseA bufferA threeUnits
     -- its bytes, and their judgement
-    bytes bytesOfEach joined headBytes areasBytes optionBytes openingBytes conversionsBytes activityBytes yearBytes dossierBytes
-    number numbers total _>>=_ _>>_ give mark stands upon present begin field fields outside within equal nothing
-    head areas matrixUnder conversions inRange fieldsOf activityMark activityUnder activity
+    bytes bytesOfEach joined headBytes areasBytes bytesIfAny openingBytes conversionsBytes activityBytes yearBytes dossierBytes
+    number numbers total _>>=_ _>>_ give mark stands upon ifAny present begin field fields outside within equal nothing
+    head stocksIfAny areas matrixUnder conversions inRange fieldsOf activityMark activityUnder activity
     opening run activities yearRecords yearLeft year end years dossier
     -- classes, projection, activity records, figures
     sum listed ceilDiv carbonStocks deforestationProbabilities emissionFactor optionOne optionOneMatrix daysInYear

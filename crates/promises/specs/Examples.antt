@@ -32,6 +32,7 @@ unfoldable pub caseA : Dossier
 caseA = record {
   opening = record {
     head = record { option = 1; firstYear = 2020; years = 1 };
+    stocks = none;
     projectAreas = only E 100_000_000;
     beltAreas = replicate 12 0;
     matrix = none;

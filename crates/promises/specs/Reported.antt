@@ -6,6 +6,7 @@ use mathlib.Core.List.{List, [], _∷_}
 use lib.IntN.{ℤ, pos, _+ℤ_}
 use lib.ListN.{length, getD}
 use Rattle.arithmetic.specs.Fraction.{Fraction}
+use Rattle.classes.specs.Classes.{greatestIn}
 use Rattle.projection.specs.declared.Region.{Region}
 use Rattle.projection.specs.Projection.{projectedRegion}
 use Rattle.figures.specs.declared.Terms.{Terms}
@@ -47,7 +48,8 @@ pub record Reported (due : Due) (years : List Year) (closed : List ℕ) : Type 0
       → figureAt closed (64 * k + 8 * j) ≡ getD (eight (getD (yearsFigures (due .terms) (due .state .project) (due .state .belt) years) k noFigures)) j (pos 0)
   pub total : figureAt closed (64 * length years) ≡ periodTotal (yearsFigures (due .terms) (due .state .project) (due .state .belt) years)
   pub tonnes : figureAt closed (64 * length years + 8) ≡ pos (tonnesOf (figureAt closed (64 * length years)))
-  pub assured : TotalAssured (length years) (recordCount years) (figureAt closed (64 * length years)) (afterYearsᶠ (due .terms) years (openedᶠ (due .state)) .total)
+  pub assured : TotalAssured (greatestIn (due .terms .stocks)) (length years) (recordCount years) (figureAt closed (64 * length years))
+      (afterYearsᶠ (due .terms) years (openedᶠ (due .state)) .total)
   pub project : RegionReported (length years) (due .terms .start .0) (figureAt closed (64 * length years + 16))
       (projectedYears (due .terms .matrix) years (due .state .project)) (afterYearsᶠ (due .terms) years (openedᶠ (due .state)) .project)
   pub belt : RegionReported (length years) (due .terms .beltstart .0) (figureAt closed (64 * length years + 24))

@@ -7,7 +7,7 @@ use native.Mathlib.Omega.{arith}
 use lib.ListN.{length, drop, getD, set}
 use Rattle.wire.specs.Bytes.{Bytes}
 use Rattle.wire.proofs.BytesLaws.{bytes-drop}
-use Rattle.classes.specs.Classes.{emissionFactor}
+use Rattle.classes.specs.Classes.{emissionFactor, greatestStock}
 use Rattle.classes.specs.Matrix.{entry, tableOf}
 use Rattle.projection.specs.Ranges.{FactorsFit}
 use Rattle.figures.specs.declared.Terms.{Terms}
@@ -39,8 +39,8 @@ pub tables : (t : Terms) {factors counted : List ℕ}
     → Tables t factors counted
 tables t w = record { of-factors = w .0; of-counted = w .1 }
 
--- they fit 16 bits, as the stocks do
-pub tables-fit : {t : Terms} {factors counted : List ℕ} → Tables t factors counted → ((i : ℕ) → getD (t .stocks) i 0 ≤ 65535) → FactorsFit factors × FactorsFit counted
+-- their factors are no greater than the greatest stock
+pub tables-fit : {t : Terms} {factors counted : List ℕ} → Tables t factors counted → ((i : ℕ) → getD (t .stocks) i 0 ≤ greatestStock) → FactorsFit factors × FactorsFit counted
 tables-fit {t} w stocks = (rw (w .of-factors) (factors-fit (t .stocks) stocks), rw (w .of-counted) (counted-fit (t .stocks) stocks (t .option)))
 
 -- a ledger that takes what a step made of a year

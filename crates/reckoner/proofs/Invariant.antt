@@ -15,8 +15,8 @@ use borrow.Author.Tests.{eqb-true, eqb-false}
 use Rattle.arithmetic.specs.Sum.{sum}
 use Rattle.arithmetic.proofs.SumLaws.{sum-cong, sum-const, length-listed}
 use Rattle.arithmetic.proofs.IntegerLaws.{mag-plus}
-use Rattle.arithmetic.proofs.TableLaws.{atMost, entry-le}
-use Rattle.classes.specs.Classes.{classes}
+use Rattle.arithmetic.proofs.TableLaws.{atMost, entry-le, places-le}
+use Rattle.classes.specs.Classes.{classes, greatestStock}
 use Rattle.classes.specs.Matrix.{entry, RowsSum, optionOneMatrix}
 use Rattle.classes.specs.Ranges.{greatestFigure}
 use Rattle.classes.proofs.MatrixLaws.{option-one-rows}
@@ -28,7 +28,24 @@ use Rattle.figures.specs.Year.{Year}
 use Rattle.figures.specs.Reckoning.{yearFigures, afterFigures, afterYear}
 use Rattle.figures.proofs.FiguresLaws.{FiguresSmall}
 use Rattle.wire.specs.Bytes.{Bytes, total}
-use Rattle.dossier.specs.Records.{Opening, OpeningInRange, MatrixUnder, matrixInUse, termsOf, stateOf, emptyTerms, emptyState, settled, next, YearInRange, YearsInRange, Dossier, DossierInRange}
+use Rattle.dossier.specs.Records.{
+  StocksFiled,
+  Opening,
+  OpeningInRange,
+  MatrixUnder,
+  stocksInUse,
+  matrixInUse,
+  termsOf,
+  stateOf,
+  emptyTerms,
+  emptyState,
+  settled,
+  next,
+  YearInRange,
+  YearsInRange,
+  Dossier,
+  DossierInRange,
+}
 use Rattle.dossier.specs.Claims.{DueInRange}
 use Rattle.dossier.specs.Reader.{Judged, refused, accepted}
 use Rattle.dossier.specs.Judging.{dossier, openingPiece, yearPiece}
@@ -47,7 +64,7 @@ pub record LedgerKept (l : Ledger) : Type 0 where
   pub project : RegionKept (l .terms .start .0) (l .state .project)
   pub belt : RegionKept (l .terms .beltstart .0) (l .state .belt)
   pub total : mag (l .state .total .0) ≤ greatestFigure * l .given
-  pub stocks : (i : ℕ) → getD (l .terms .stocks) i 0 ≤ 65535
+  pub stocks : (i : ℕ) → getD (l .terms .stocks) i 0 ≤ greatestStock
   pub rows : RowsWithin (l .terms .matrix)
   pub places : length (l .terms .matrix) ≡ 144
   pub twenty : length (l .figures) ≡ 20
@@ -74,7 +91,7 @@ empty-kept = record {
   project = zero-region;
   belt = zero-region;
   total = omega arith;
-  stocks = entry-le 65535 (replicate 12 0) tt;
+  stocks = entry-le greatestStock (replicate 12 0) tt;
   rows = λ i h. omega (arith, zero-row i h);
   places = length-replicate {A = ℕ} 144 0;
   twenty = length-replicate 20 noFigures;
@@ -92,6 +109,11 @@ unfolding optionOneMatrix
 in-use-places option none h = length-listed 144 _
 in-use-places option (some matrix) h = h .1 .count
 
+-- no stock in use is above the greatest that may be filed
+in-use-stocks : (m : Option (List ℕ)) → StocksFiled m → (i : ℕ) → getD (stocksInUse m) i 0 ≤ greatestStock
+in-use-stocks none h = built-in-le
+in-use-stocks (some stocks) h = places-le greatestStock stocks (λ i l. h .each i (omega (arith, h .twelve)))
+
 pub opened-kept : (o : Opening) → OpeningInRange o → LedgerKept (openedLedger o)
 unfolding openedLedger newLedger termsOf stateOf
 opened-kept o h = record {
@@ -101,7 +123,7 @@ opened-kept o h = record {
   project = opened-region (o .projectAreas) (h .projectAreas .twelve) (h .projectAreas .totals .most);
   belt = opened-region (o .beltAreas) (h .beltAreas .twelve) (h .beltAreas .totals .most);
   total = omega arith;
-  stocks = λ i. omega (arith, built-in-le i);
+  stocks = in-use-stocks (o .stocks) (h .stocks);
   rows = λ i k. le-of-eq (in-use-rows (o .head .option) (o .matrix) (h .matrix) i k);
   places = in-use-places (o .head .option) (o .matrix) (h .matrix);
   twenty = length-replicate 20 noFigures;

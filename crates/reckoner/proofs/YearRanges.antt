@@ -5,7 +5,7 @@ use Prim.Native.Nat.{ℕ, _≤_}
 use mathlib.Core.List.{List}
 use native.Mathlib.Omega.{arith}
 use lib.ListN.{getD}
-use Rattle.classes.specs.Classes.{emissionFactor}
+use Rattle.classes.specs.Classes.{emissionFactor, greatestStock}
 use Rattle.classes.specs.Calendar.{daysInYear}
 use Rattle.classes.specs.Ranges.{greatestEmissions}
 use Rattle.classes.proofs.FactorLaws.{factor-le}
@@ -24,12 +24,12 @@ use Rattle.dossier.specs.Records.{Due, ConversionsInRange, YearInRange}
 use Rattle.dossier.specs.Claims.{DueInRange}
 use Rattle.wire.proofs.NumbersLaws.{total-entries}
 
--- by stocks of 16 bits, and a matrix whose rows sum to at most 1,000,000
-module _ (t : Terms) (stocks : (i : ℕ) → getD (t .stocks) i 0 ≤ 65535) (rows : RowsWithin (t .matrix)) (due : Due) (settled : DueInRange due) (y : Year) (h : YearInRange due y) where
+-- by stocks of at most the greatest, and a matrix whose rows sum to at most 1,000,000
+module _ (t : Terms) (stocks : (i : ℕ) → getD (t .stocks) i 0 ≤ greatestStock) (rows : RowsWithin (t .matrix)) (due : Due) (settled : DueInRange due) (y : Year) (h : YearInRange due y) where
   reference-range : (region : Region) → SmallRegion region → regionReference t y region ≤ greatestEmissions
   unfolding regionReference
   reference-range region r =
-      let small = projected-small region (t .matrix) (emissionFactor (t .stocks)) r rows (factor-le (t .stocks) 65535 stocks) in
+      let small = projected-small region (t .matrix) (emissionFactor (t .stocks)) r rows (factor-le (t .stocks) greatestStock stocks) in
       let days : YearDays = record { operating = y .operatingDays; calendar = daysInYear (y .year) } in
       reference-small small days (calendar-days days (y .year) refl (h .days .most))
 

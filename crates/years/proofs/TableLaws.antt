@@ -10,6 +10,7 @@ use lib.Dec.{eqb}
 use lib.ListN.{drop, getD}
 use lib.Seq.{drop-drop}
 use borrow.Author.Tests.{eq-eqb, ne-eqb}
+use Rattle.classes.specs.Classes.{greatestStock}
 use Rattle.arithmetic.specs.Sum.{sum}
 use Rattle.arithmetic.proofs.SumLaws.{sum-next, sum-cong}
 use Rattle.classes.specs.declared.CarbonUnits.{CarbonUnits}
@@ -39,7 +40,7 @@ pub record SoFar (s factors : List ℕ) (at all rest units k : ℕ) : Type 0 whe
   pub bound : k ≤ 144
   pub left : total (cells s at k) + rest ≡ all
   pub carbon : units ≡ weight s factors at k
-  pub most : units ≤ total (cells s at k) * 65535
+  pub most : units ≤ total (cells s at k) * greatestStock
 
 weight-all : (s factors : List ℕ) (at : ℕ) → weight s factors at 144 ≡ monitoredCarbon (entry factors) (cells s at 144)
 unfolding fieldAt
@@ -56,7 +57,7 @@ module _ (s : List ℕ) (at k x : ℕ) (ex : x ≡ fieldAt 8 s (at + 2 + 8 * k))
   pub weighed : (factors : List ℕ) (carbon c : ℕ) → carbon ≡ weight s factors at k → c ≡ x * getD factors k 0 → carbon + c ≡ weight s factors at (k + 1)
   weighed factors carbon c e f = omega (arith, sum-next k (λ i. fieldAt 8 s (at + 2 + 8 * i) * getD factors i 0), f ∙ ap (λ (n : ℕ). n * getD factors k 0) ex)
 
-pub released-le : (factors : List ℕ) (k x c : ℕ) → FactorsFit factors → c ≡ x * getD factors k 0 → c ≤ x * 65535
+pub released-le : (factors : List ℕ) (k x c : ℕ) → FactorsFit factors → c ≡ x * getD factors k 0 → c ≤ x * greatestStock
 released-le factors k x c fit f = rw f (mul-le-mul-left x (omega (arith, fit k)))
 
 -- ---- what the code answers

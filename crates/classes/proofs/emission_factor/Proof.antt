@@ -24,6 +24,17 @@ returns-2 : tie.Need-returns-2
 unfolding emissionFactor
 returns-2 c = search tests
 
+returns-3 : tie.Need-returns-3
+unfolding emissionFactor
+returns-3 c = search tests
+
+returns-4 : tie.Need-returns-4
+unfolding emissionFactor
+returns-4 c =
+    let at-classes = c .before .before .before in
+    let a = at-classes .before .before .args in
+    none (eqb (a .j) TP || eqb (a .j) PP) _ _ (c .if3 .left)
+
 mul-from : tie.Need-mul-from
 mul-from c = search needs
 
@@ -38,17 +49,6 @@ element-copy-out-to c = search needs
 
 sub-result : tie.Need-sub-result
 sub-result c = search needs
-
-returns-3 : tie.Need-returns-3
-unfolding emissionFactor
-returns-3 c = search tests
-
-returns-4 : tie.Need-returns-4
-unfolding emissionFactor
-returns-4 c =
-    let at-classes = c .before .before .before in
-    let a = at-classes .before .before .args in
-    none (eqb (a .j) TP || eqb (a .j) PP) _ _ (c .if3 .left)
 
 pub emission-factor-spec : {M : Type 1} → statement M
 emission-factor-spec =

@@ -11,7 +11,7 @@ use borrow.Author.Needs.{needs}
 use Rattle.wire.specs.Bytes.{numbers}
 use Rattle.dossier.specs.Reader.{give}
 use Rattle.dossier.specs.Marks.{MP}
-use Rattle.dossier.specs.JudgingRecords.{rows, matrix}
+use Rattle.dossier.specs.JudgingRecords.{each, matrix}
 use Rattle.cursor.proofs.AtLaws.{begun-no}
 use Rattle.opening.proofs.MatrixLaws.{RowsRight, next-row, all-rows, row-wrong, row-right, matrix-read}
 use Rattle.opening.proofs.read_matrix.Statement.{statement}
@@ -51,7 +51,7 @@ returns c =
     (begun-no (a .s .now) (a .at) MP 576 _ says _ (c .if1 .taken), tt)
 
 loop-holds : tie.Need-loop-holds Inv-loop μ-loop
-unfolding numbers rows give
+unfolding numbers each give
 loop-holds c = record { bound = omega arith; stored = refl; right = refl }
 
 add-fill-row : tie.Need-add-fill-row Inv-loop μ-loop

@@ -11,7 +11,7 @@ read-matrix-requires c κs = search needs
 returns : tie.Need-returns
 returns c =
     let r = c .read-matrix in
-    option-two _ (c .before .before .before .before .args .s .now) _ (r .result) _ (c .before .before .if1 .taken) (r .ensures .0) (r .ensures .1)
+    (option-two _ (c .before .before .before .before .args .s .now) _ (r .result) _ (c .before .before .if1 .taken) (r .ensures .0), r .ensures .1)
 
 fill-option-one-requires : tie.Need-fill-option-one-requires
 fill-option-one-requires c κs = search needs
@@ -20,8 +20,7 @@ returns-2 : tie.Need-returns-2
 returns-2 c =
     let at-option = c .before .before in
     let (inside, long) = at-option .before .before .pre in
-    let (judged, in-use) = option-one _ _ _ (at-option .if1 .left) (c .fill-option-one .ensures) in
-    (judged, (inside, in-use))
+    (option-one _ _ _ (at-option .if1 .left) (c .fill-option-one .ensures), inside)
 
 pub read-matrix-under-spec : {M : Type 1} → statement M
 read-matrix-under-spec =

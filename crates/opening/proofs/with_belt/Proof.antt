@@ -3,7 +3,7 @@
 use mathlib.Core.Path.{refl}
 use borrow.Author.Needs.{needs}
 use Rattle.dossier.proofs.ReaderLaws.{bind-no}
-use Rattle.opening.specs.Answers.{matrixOf, fromBelt}
+use Rattle.opening.specs.Answers.{fromBelt}
 use Rattle.opening.proofs.OpeningLaws.{matrix-fault, opening-read, settled-terms, settled-state}
 use Rattle.opening.proofs.with_belt.Statement.{statement}
 use Rattle.opening.proofs.with_belt.Tie as tie
@@ -46,28 +46,24 @@ returns-2 c =
     let r = m .before .before in
     let k = r .before .before .before in
     let b = rw (k .found2 .given .1) at (k .before .before .before .read-areas .ensures) in
-    rw (c .no-opening2 .ensures) (matrix-fault _ _ _ _ _ (b .0) _ (rw (m .answer .given .1) at (r .read-matrix-under .ensures .0)), refl)
+    rw (c .no-opening2 .ensures) (matrix-fault _ _ _ _ _ _ (b .0) _ (rw (m .answer .given .1) at (r .read-matrix-under .ensures .0)), refl)
 
 returns-3 : tie.Need-returns-3
 returns-3 c =
     let at-project = c .before in
-    let at-stocks = at-project .before in
-    let at-answer = at-stocks .before .before in
+    let at-answer = at-project .before .before in
     let at-matrix = at-answer .before .before in
     let at-found = at-matrix .before .before .before in
     let at-areas = at-found .before .before .before in
     let at-start = at-areas .before .before in
     let b = rw (at-found .found2 .given .1) at (at-areas .read-areas .ensures) in
-    let q = rw (at-answer .answer2 .given .1) at (at-matrix .read-matrix-under .ensures) in
+    let m = rw (at-answer .answer2 .given .1) at (at-matrix .read-matrix-under .ensures) in
     let a = at-start .args in
     let (inside, summed) = at-start .pre in
     let belt = at-areas .read-areas .result .areas in
-    let of-terms = settled-terms _ (a .areas) belt (matrixOf (a .h .option) _) _ _ _ _ (at-stocks .carbon-stocks .ensures) (q .1 .1) summed (b .1 .1) in
-    let of-state = settled-state _ (a .areas) belt (matrixOf (a .h .option) _) _ _ (at-project .at-inception .ensures) (c .at-inception2 .ensures) in
-    (opening-read _ _ _ _ _ (b .0) _ _ _ _ (q .0) of-terms of-state, q .1 .0)
-
-carbon-stocks-requires : tie.Need-carbon-stocks-requires
-carbon-stocks-requires c κs = search needs
+    let of-terms = settled-terms _ (a .stocks) (a .areas) belt _ _ _ summed (b .1 .1) in
+    let of-state = settled-state _ (a .stocks) (a .areas) belt _ _ _ (at-project .at-inception .ensures) (c .at-inception2 .ensures) in
+    (opening-read _ _ _ _ _ _ (b .0) _ _ _ _ (m .0) of-terms of-state, m .1)
 
 at-inception-requires : tie.Need-at-inception-requires
 at-inception-requires c κs = search needs
@@ -87,7 +83,6 @@ with-belt-spec =
     enum-known-answer
     no-opening-requires-2
     enum-known-answer-2
-    carbon-stocks-requires
     at-inception-requires
     at-inception-requires-2
     returns

@@ -6,6 +6,7 @@ use Prim.Native.Nat.{ℕ, _+_, _-_, _*_, _≤_, _<_}
 use native.Mathlib.Nat.{le-trans, mul-le-mul-right}
 use native.Mathlib.Omega.{arith}
 use borrow.Author.Needs.{needs}
+use Rattle.classes.specs.Classes.{greatestStock}
 use Rattle.arithmetic.specs.Sum.{sum}
 use Rattle.arithmetic.proofs.SumLaws.{sum-none, sum-next, term-le}
 use Rattle.classes.specs.declared.AreaUnits.{AreaUnits}
@@ -115,8 +116,8 @@ plus-requires-2 c κs =
     let turn = at-loop (at-flow (c .before) .before) in
     let a = at-start turn .args in
     let (small, (rows, (fit, column))) = at-start turn .pre in
-    let carbon = inflow-carbon-next (a .t1) (a .matrix .now) rows (entry (a .factors .now)) 65535 (fitting-le (a .factors .now) fit) in
-    omega (arith, carbon-of c, carbon (turn .loop .i) (a .j) (omega arith) column, mul-le-mul-right 65535 small)
+    let carbon = inflow-carbon-next (a .t1) (a .matrix .now) rows (entry (a .factors .now)) greatestStock (fitting-le (a .factors .now) fit) in
+    omega (arith, carbon-of c, carbon (turn .loop .i) (a .j) (omega arith) column, mul-le-mul-right greatestStock small)
 
 add-i : tie.Need-add-i Inv-loop μ-loop
 add-i c = search needs

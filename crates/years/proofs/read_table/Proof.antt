@@ -5,6 +5,7 @@ use Prim.Native.Nat.{suc, _+_, _-_, _*_, _≤_}
 use native.Mathlib.Numerals.{add-one}
 use native.Mathlib.Omega.{arith}
 use borrow.Author.Needs.{needs}
+use Rattle.classes.specs.Classes.{greatestStock}
 use Rattle.arithmetic.proofs.SumLaws.{sum-none}
 use Rattle.wire.specs.Bytes.{numbers, total}
 use Rattle.years.proofs.TableLaws.{cells, SoFar, one-more, weighed, released-le, table-no, table-wrong, table-over, table-read}
@@ -95,7 +96,7 @@ released-requires c κs =
     (omega (arith, turn .loop .inv .left), fit _)
 
 -- its carbon is at most the greatest factor for each of its units
-light : (c : tie.After-released Inv-loop μ-loop) → c .released .result .0 ≤ at-field (at-test (c .before .before)) .field64 .result * 65535
+light : (c : tie.After-released Inv-loop μ-loop) → c .released .result .0 ≤ at-field (at-test (c .before .before)) .field64 .result * greatestStock
 light c =
     let start = at-start (at-begun (at-loop (at-field (at-test (c .before .before))))) in
     let ((inside, small), fit) = start .pre in

@@ -10,6 +10,7 @@ use native.Mathlib.Omega.{arith}
 use lib.ListN.{length, take, length-set}
 use lib.Seq.{take-suc-set, take-all}
 use borrow.Author.Needs.{needs}
+use Rattle.classes.specs.Classes.{greatestStock}
 use Rattle.arithmetic.specs.Sum.{sum, listed}
 use Rattle.arithmetic.proofs.SumLaws.{sum-none, sum-next}
 use Rattle.classes.specs.declared.AreaUnits.{AreaUnits}
@@ -60,9 +61,9 @@ plus-requires c κs =
     let a = at-start .args in
     let (small, (rows, fit)) = at-start .pre in
     let carbon = inflowCarbon (entry (a .factors .now)) (a .self .areas) (a .matrix .now) in
-    let most = columns-le (a .self .areas) (a .matrix .now) rows (entry (a .factors .now)) 65535 (fitting-le (a .factors .now) fit) in
+    let most = columns-le (a .self .areas) (a .matrix .now) rows (entry (a .factors .now)) greatestStock (fitting-le (a .factors .now) fit) in
     let total : areaTotal (a .self .areas) ≤ 1000000000000 = omega arith in
-    omega (arith, at-column .flows-into .ensures .1, sum-next (at-loop .loop .j) carbon, most (at-loop .loop .j + 1) (omega arith), mul-le-mul-right 65535 total)
+    omega (arith, at-column .flows-into .ensures .1, sum-next (at-loop .loop .j) carbon, most (at-loop .loop .j + 1) (omega arith), mul-le-mul-right greatestStock total)
 
 add-j : tie.Need-add-j Inv-loop μ-loop
 add-j c = search needs
