@@ -1,24 +1,36 @@
-/* The proved reckoner against the tuned one in C on a dossier file: both in one interleaved run, medians of many rounds. */
+/* The proved reckoner against the tuned one in C on a dossier file: both in one interleaved run, medians of many rounds.
+ *
+ *     bench DOSSIER [PLAN]            the times; PLAN - is none
+ *     bench DOSSIER PLAN proved       one call, or one of tuned, for counting instructions
+ */
 #define _POSIX_C_SOURCE 200809L
 #include "kh_am004.h"
 #include "plain.h"
 #include <stdio.h>
 #include <stdlib.h>
+#include <string.h>
 #include <time.h>
 
 enum { ROUNDS = 401, CALLS = 20 };
 
-static uint8_t dossier[1 << 17], report[KH_AM004_LONGEST_REPORT];
-static size_t length;
+static uint8_t dossier[1 << 17], plan[1 << 17], report[KH_AM004_LONGEST_REPORT];
+static size_t length, plan_length;
 
-typedef uint32_t reckoner(const uint8_t *, size_t, uint8_t *, size_t);
+static uint32_t proved(void)
+{
+    if (plan_length)
+        return kh_am004_reckon_plan(dossier, length, plan, plan_length, report, sizeof report);
+    return kh_am004_reckon(dossier, length, report, sizeof report);
+}
 
-static double microseconds(reckoner *reckon)
+static uint32_t tuned(void) { return plain_reckon(dossier, length, plan, plan_length, report, sizeof report); }
+
+static double microseconds(uint32_t (*reckon)(void))
 {
     struct timespec a, b;
     clock_gettime(CLOCK_MONOTONIC, &a);
     for (int k = 0; k < CALLS; k++)
-        if (reckon(dossier, length, report, sizeof report))
+        if (reckon())
             exit(1);
     clock_gettime(CLOCK_MONOTONIC, &b);
     return ((double)(b.tv_sec - a.tv_sec) * 1e6 + (double)(b.tv_nsec - a.tv_nsec) / 1e3) / CALLS;
@@ -30,23 +42,47 @@ static int rising(const void *a, const void *b)
     return (x > y) - (x < y);
 }
 
+static double median(double times[ROUNDS])
+{
+    qsort(times, ROUNDS, sizeof *times, rising);
+    return times[ROUNDS / 2];
+}
+
+static size_t load(const char *path, uint8_t *bytes)
+{
+    FILE *file = fopen(path, "rb");
+    if (!file) {
+        perror(path);
+        exit(2);
+    }
+    size_t n = fread(bytes, 1, sizeof dossier, file);
+    fclose(file);
+    return n;
+}
+
+static void compare(void)
+{
+    static double of_proved[ROUNDS], of_tuned[ROUNDS];
+    for (int k = 0; k < ROUNDS; k++) {
+        of_proved[k] = microseconds(proved);
+        of_tuned[k] = microseconds(tuned);
+    }
+    double p = median(of_proved), t = median(of_tuned);
+    printf("%zu bytes", length);
+    if (plan_length)
+        printf(" and a plan of %zu", plan_length);
+    printf(": proved %.2f us, tuned C %.2f us, ratio %.2f\n", p, t, p / t);
+}
+
 int main(int argc, char **argv)
 {
-    static double proved[ROUNDS], tuned[ROUNDS];
-    FILE *file = argc > 1 ? fopen(argv[1], "rb") : NULL;
-    if (!file)
+    if (argc < 2 || argc > 4)
         return 2;
-    length = fread(dossier, 1, sizeof dossier, file);
-    fclose(file);
-    if (argc == 3) /* one call of one of them, for counting instructions */
-        return (int)(argv[2][0] == 'p' ? kh_am004_reckon : plain_reckon)(dossier, length, report, sizeof report);
-    for (int k = 0; k < ROUNDS; k++) {
-        proved[k] = microseconds(kh_am004_reckon);
-        tuned[k] = microseconds(plain_reckon);
-    }
-    qsort(proved, ROUNDS, sizeof *proved, rising);
-    qsort(tuned, ROUNDS, sizeof *tuned, rising);
-    double p = proved[ROUNDS / 2], t = tuned[ROUNDS / 2];
-    printf("%zu bytes: proved %.2f us, tuned C %.2f us, ratio %.2f\n", length, p, t, p / t);
+    length = load(argv[1], dossier);
+    if (argc > 2 && strcmp(argv[2], "-"))
+        plan_length = load(argv[2], plan);
+    if (argc == 4)
+        return (int)(strcmp(argv[3], "proved") ? tuned : proved)();
+    compare();
     return 0;
 }

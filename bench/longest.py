@@ -1,4 +1,9 @@
-"""Prints the longest dossier: Option 2, stocks filed, twenty years, sixty records of VE in each."""
+"""Writes long dossiers: Option 2, stocks filed, twenty years, sixty records of VE in each.
+
+    python3 bench/longest.py                              prints the longest dossier
+    python3 bench/longest.py planned DOSSIER PLAN OWN     writes one of planned years, its plan, and the same with the records in it
+"""
+import pathlib
 import struct
 import sys
 
@@ -7,14 +12,39 @@ STOCKS = [50000 - 4000 * k for k in range(11)] + [0]
 ROW = [83333] * 11 + [83337]
 TABLE = [a // 12 for a in AREAS for _ in range(12)]
 TABLE[0] += sum(AREAS) - sum(TABLE)
+YEARS = range(2000, 2020)
 
 
 def words(code, values):
     return struct.pack(f">{len(values)}{code}", *values)
 
 
-head = b"HD" + struct.pack(">BHB", 2, 2000, 20) + b"ST" + words("H", STOCKS)
-opening = head + b"PA" + words("Q", AREAS) + b"DA" + words("Q", AREAS) + b"MP" + words("I", ROW * 12)
-records = 60 * (b"VE" + struct.pack(">BIII", 1, 1000, 10000, 100000))
-years = b"".join(b"YR" + struct.pack(">HH", y, 365) + b"CP" + words("Q", TABLE) + b"CD" + words("Q", TABLE) + records for y in range(2000, 2020))
-sys.stdout.buffer.write(opening + years + b"EN")
+def vehicles(rate):
+    return 60 * (b"VE" + struct.pack(">BIII", 1, 1000, 10000, rate))
+
+
+def dossier(records):
+    """Each year with these bytes after its tables."""
+    head = b"HD" + struct.pack(">BHB", 2, YEARS[0], len(YEARS)) + b"ST" + words("H", STOCKS)
+    opening = head + b"PA" + words("Q", AREAS) + b"DA" + words("Q", AREAS) + b"MP" + words("I", ROW * 12)
+    tables = b"CP" + words("Q", TABLE) + b"CD" + words("Q", TABLE)
+    return opening + b"".join(b"YR" + struct.pack(">HH", y, 365) + tables + records for y in YEARS) + b"EN"
+
+
+def plan(records):
+    return b"".join(b"PY" + struct.pack(">H", y) + records for y in YEARS) + b"EN"
+
+
+def write_planned(*paths):
+    """The vehicles use so little fuel that their emissions are small enough for a plan."""
+    little = vehicles(1000)
+    for path, data in zip(paths, (dossier(b"PL"), plan(little), dossier(little))):
+        pathlib.Path(path).write_bytes(data)
+
+
+if sys.argv[1:2] == ["planned"] and len(sys.argv) == 5:
+    write_planned(*sys.argv[2:])
+elif sys.argv[1:]:
+    sys.exit(__doc__)
+else:
+    sys.stdout.buffer.write(dossier(vehicles(100000)))

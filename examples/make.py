@@ -1,5 +1,5 @@
 #!/usr/bin/env python3
-"""Makes the example dossiers, in this folder or in another: python3 examples/make.py [FOLDER]"""
+"""Makes the example dossiers and plans, in this folder or in another: python3 examples/make.py [FOLDER]"""
 import pathlib
 import struct
 import sys
@@ -85,8 +85,26 @@ def newer_stocks():
             + b"DA" + areas(**belt) + b"MP" + struct.pack(">144I", *rows) + years + b"EN")
 
 
+def plan(*years):
+    """Each year with its records."""
+    return b"".join(b"PY" + struct.pack(">H", year) + records for year, records in years) + b"EN"
+
+
+PLANNED_YEARS = (
+    (2021, b"VE" + struct.pack(">BIII", 2, 3, 12_000, 90) + b"NI" + struct.pack(">BBQH", 1, 1, 50_000, 4_600)),
+    (2022, b"VE" + struct.pack(">BIII", 2, 2, 12_000, 90) + b"LI" + struct.pack(">BQ", 3, 250_000)),
+    (2023, b"VE" + struct.pack(">BIII", 2, 2, 9_000, 90)),
+)
+
+
+def planned():
+    """Case A's year and two more, whose activities are planned ones; the plan has a year that the dossier does not reach."""
+    return evergreen(CASE_A, (365, 800_000, b"PL"), (365, 1_200_000, b"PL")), plan(*PLANNED_YEARS)
+
+
 def refusals():
-    """One dossier for each refusal that bytes alone can bring, case A or another example with one fault."""
+    """One dossier for each refusal that bytes alone can bring, case A or another example with one fault; 12 is that of its plan, 13 that no
+    plan is lent."""
     good, long = case_a(), twenty_years()
 
     def with_bytes(data, at, new):
@@ -104,7 +122,14 @@ def refusals():
         8: with_bytes(good, len(good) - 11, bytes([4])),
         9: good[:-2] + 60 * fuel + b"EN",
         11: with_bytes(newer_stocks(), 8, struct.pack(">H", 50_001)),
+        12: planned()[0],
+        13: evergreen((366, 1_000_000, b"PL")),
     }
+
+
+def falling_years():
+    """The plan of refusal 12: the planned example's, its years from the last to the first."""
+    return plan(*reversed(PLANNED_YEARS))
 
 
 if __name__ == "__main__":
@@ -113,5 +138,8 @@ if __name__ == "__main__":
     (folder / "bad-year.dossier").write_bytes(bad_year())
     (folder / "twenty-years.dossier").write_bytes(twenty_years())
     (folder / "newer-stocks.dossier").write_bytes(newer_stocks())
+    for suffix, data in zip(("dossier", "plan"), planned()):
+        (folder / f"planned.{suffix}").write_bytes(data)
     for number, data in refusals().items():
         (folder / f"refused-{number}.dossier").write_bytes(data)
+    (folder / "refused-12.plan").write_bytes(falling_years())

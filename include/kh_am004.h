@@ -13,14 +13,15 @@ extern "C" {
 /* The version of this header and of the library that belongs to it. The first number rises where something here changes
  * its meaning, or a figure its rule of reckoning, the second where something is added. */
 #define KH_AM004_VERSION_MAJOR 2
-#define KH_AM004_VERSION_MINOR 1
+#define KH_AM004_VERSION_MINOR 2
 
 /* Bytes of the report of n years. */
 #define KH_AM004_REPORT_BYTES(n) (64 * (size_t)(n) + 32)
 
-/* The greatest number of years, and the bytes of the longest dossier and of the longest report. */
+/* The greatest number of years, and the bytes of the longest dossier, of the longest plan and of the longest report. */
 #define KH_AM004_MOST_YEARS 20
 #define KH_AM004_LONGEST_DOSSIER 65088
+#define KH_AM004_LONGEST_PLAN 18082
 #define KH_AM004_LONGEST_REPORT 1312
 
 /* Where the report holds what. Year y, counted from 0, begins at KH_AM004_AT_YEAR(y), and its figures stand at these
@@ -56,7 +57,9 @@ enum kh_am004_number {
     KH_AM004_REFUSED_ACTIVITY = 8,
     KH_AM004_REFUSED_RECORDS = 9,
     KH_AM004_REFUSED_BUFFER = 10,
-    KH_AM004_REFUSED_STOCKS = 11
+    KH_AM004_REFUSED_STOCKS = 11,
+    KH_AM004_REFUSED_PLAN = 12,
+    KH_AM004_REFUSED_PLANNED = 13
 };
 
 /* What a number says, in English; "unknown number" for any that no call answers. */
@@ -76,21 +79,28 @@ static inline const char *kh_am004_text(uint32_t number)
     case KH_AM004_REFUSED_RECORDS: return "a 61st activity record in one year";
     case KH_AM004_REFUSED_BUFFER: return "the result buffer is too short";
     case KH_AM004_REFUSED_STOCKS: return "ST: a carbon stock above 50,000, or that of NF not 0";
+    case KH_AM004_REFUSED_PLAN: return "the plan: not of its form";
+    case KH_AM004_REFUSED_PLANNED: return "PL: the plan lacks the year, or its emissions are not small enough";
     default: return "unknown number";
     }
 }
 
 /*
- * Reckons a dossier. 0: the report stands at the start of result, and the bytes beyond it are as they were.
- * Otherwise the number of the refusal, and every byte of result is as it was.
+ * Reckons a dossier, its PL years by the records that the plan has for them; plan_len 0 is no plan. 0: the report stands
+ * at the start of result, and the bytes beyond it are as they were. Otherwise the number of the refusal, and every byte
+ * of result is as it was. The plan is judged before the dossier, whether or not it is used.
  *
- * The caller owes valid pointers: dossier to dossier_len bytes that can be read, result to result_len bytes that can be
- * written, and the two must not overlap. A pointer may be null where its length is 0. The call keeps neither, needs no
- * heap, and may be made from several threads at once.
+ * The caller owes valid pointers: dossier to dossier_len bytes and plan to plan_len bytes that can be read and may
+ * overlap, result to result_len bytes that can be written, and it must not overlap the other two. A pointer may be null
+ * where its length is 0. The call keeps none, needs no heap, and may be made from several threads at once.
  *
  * The report is of big-endian 64-bit numbers in two's complement: each year's figures and the total in grams of CO2,
  * the tonnes, and the balances in millionths of a hectare.
  */
+uint32_t kh_am004_reckon_plan(const uint8_t *dossier, size_t dossier_len, const uint8_t *plan, size_t plan_len,
+                              uint8_t *result, size_t result_len);
+
+/* kh_am004_reckon_plan with no plan: a dossier with a PL year is refused. */
 uint32_t kh_am004_reckon(const uint8_t *dossier, size_t dossier_len, uint8_t *result, size_t result_len);
 
 #ifdef __cplusplus

@@ -1,6 +1,7 @@
-/* Compares the proved reckoner with the plain one: the same number and the same bytes on dossiers sound, cut, padded and
- * spoilt; a thread stack of 64 KiB; and, on the longest dossier, no longer a time. The argument is another seed; a
- * second one leaves the times out. Where they differ it prints the seed, and target/difference.dossier has the bytes. */
+/* Compares the proved reckoner with the plain one: the same number and the same bytes on dossiers and plans sound, cut,
+ * padded and spoilt; a thread stack of 64 KiB; and, on the longest dossier, no longer a time. The argument is another
+ * seed; a second one leaves the times out. Where they differ it prints the seed, and target/difference.dossier and
+ * target/difference.plan have the bytes. */
 #define _POSIX_C_SOURCE 200809L
 #include "kh_am004.h"
 #include "plain.h"
@@ -10,11 +11,12 @@
 #include <string.h>
 #include <time.h>
 
-enum { ONE = 1000000, MOST_RECORDS = 5 + 20 * (3 + 61) + 1 };
+enum { ONE = 1000000, MOST_RECORDS = 5 + 21 * (3 + 61) + 1 };
 
-static uint8_t made[70000], spoilt[70000];
-static size_t length, begins[MOST_RECORDS + 1]; /* where each record begins, and where the last one ends */
-static int records_made;
+/* bytes, and of those in the making where each record begins and where the last one ends */
+struct bytes { uint8_t s[70000]; size_t n, begins[MOST_RECORDS + 1]; int records; };
+
+static struct bytes made, plan, spoilt, spoilt_plan, none, *into = &made;
 static uint64_t seed = 0x9e3779b97f4a7c15, given;
 
 static uint64_t draw(uint64_t below)
@@ -31,16 +33,19 @@ static _Noreturn void fail(const char *what)
     exit(1);
 }
 
-/* Fails with the bytes in a file. */
-static _Noreturn void differ(const uint8_t *s, size_t n, const char *what, uint32_t proved, uint32_t due, size_t room)
+static int stored(const char *path, const struct bytes *b)
 {
-    const char *path = "target/difference.dossier";
     FILE *file = fopen(path, "wb");
-    int stored = file && fwrite(s, 1, n, file) == n;
-    if (file)
-        fclose(file);
-    printf("%s: proved %u, due %u, buffer of %zu, seed %llu; %s %s\n", what, proved, due, room, (unsigned long long)given, path,
-           stored ? "has the bytes" : "could not be written");
+    int whole = file && fwrite(b->s, 1, b->n, file) == b->n;
+    return file && fclose(file) == 0 && whole;
+}
+
+/* Fails with the bytes in files. */
+static _Noreturn void differ(const struct bytes *d, const struct bytes *p, const char *what, uint32_t proved, uint32_t due, size_t room)
+{
+    int whole = stored("target/difference.dossier", d) && stored("target/difference.plan", p);
+    printf("%s: proved %u, due %u, buffer of %zu, seed %llu; target/difference.dossier and .plan %s\n", what, proved, due, room,
+           (unsigned long long)given, whole ? "have the bytes" : "could not be written");
     exit(1);
 }
 
@@ -55,14 +60,27 @@ static uint64_t number(const uint8_t *s)
 static void put(uint64_t value, int bytes)
 {
     while (bytes--)
-        made[length++] = (uint8_t)(value >> (8 * bytes));
+        into->s[into->n++] = (uint8_t)(value >> (8 * bytes));
 }
 
 static void mark(const char *m)
 {
-    begins[records_made++] = length;
-    made[length++] = (uint8_t)m[0];
-    made[length++] = (uint8_t)m[1];
+    into->begins[into->records++] = into->n;
+    into->s[into->n++] = (uint8_t)m[0];
+    into->s[into->n++] = (uint8_t)m[1];
+}
+
+static void start(struct bytes *b)
+{
+    into = b;
+    b->n = 0;
+    b->records = 0;
+}
+
+static void end(void)
+{
+    mark("EN");
+    into->begins[into->records] = into->n;
 }
 
 /* count numbers that add up to a total */
@@ -88,21 +106,38 @@ static void stay_but(const uint64_t *areas, uint64_t most, int bytes)
         put(cells[k], bytes);
 }
 
+/* at most the share of a greatest quantity, and 1 at least */
+static uint64_t quantity(uint64_t most, uint64_t share) { return draw((most > share ? most / share : 1) + 1); }
+
+/* kind below 0: at random */
 static void record(int kind, uint64_t share)
 {
     static const char *marks[4] = { "FU", "VE", "NI", "LI" };
+    kind = kind < 0 ? (int)draw(4) : kind;
     mark(marks[kind]);
     put(1 + draw(3), 1);
     if (kind == 1) {
-        put(draw(1000 / share + 1), 4);
+        put(quantity(1000, share), 4);
         put(draw(100000), 4);
-        put(draw(10000 / share), 4);
+        put(quantity(10000, share), 4);
     } else if (kind == 2) {
         put(1 + draw(2), 1);
-        put(draw(10000000000 / share + 1), 8);
+        put(quantity(10000000000, share), 8);
         put(draw(10001), 2);
     } else
-        put(draw(1000000000000 / share + 1), 8);
+        put(quantity(1000000000000, share), 8);
+}
+
+/* a year of the plan; records below 0: at random */
+static void plan_year(int year, int records, int kind, uint64_t share)
+{
+    struct bytes *before = into;
+    into = &plan;
+    mark("PY");
+    put((uint64_t)year, 2);
+    for (int k = records < 0 ? (int)draw(61) : records; k > 0; k--)
+        record(kind, share);
+    into = before;
 }
 
 static uint64_t stock(void)
@@ -111,30 +146,24 @@ static uint64_t stock(void)
     return draw(4) ? draw(50001) : edges[draw(4)];
 }
 
-/* filed: with stocks or without; below 0, as records and kind, at random */
-static void dossier(int option, int filed, int first, int years, int records, int kind)
+/* HD to MP; areas gets those of PA and DA */
+static void opening(int option, int filed, int first, int years, int keeps, const uint64_t *total, uint64_t areas[2][12])
 {
-    /* half of them lose little of their forest and have small records, so that totals of either sign come */
-    static const uint64_t losses[4] = { 0, 2000, 50000, 300000 };
     static const uint64_t ones[12] = { ONE, ONE, ONE, ONE, ONE, ONE, ONE, ONE, ONE, ONE, ONE, ONE };
-    uint64_t keeps = draw(2), most = 1 + draw(4), share = keeps ? 1000 : 1, areas[2][12];
-    uint64_t start[2] = { 1 + draw(!keeps && draw(2) ? 100 : 1000000000000), draw(draw(2) ? 100 : 1000000000001) };
-    length = 0;
-    records_made = 0;
     mark("HD");
     put((uint64_t)option, 1);
     put((uint64_t)first, 2);
     put((uint64_t)years, 1);
-    if (filed < 0 ? draw(3) == 0 : filed) {
+    if (filed) {
         mark("ST");
         for (int i = 0; i < 12; i++)
             put(i < 11 ? stock() : 0, 2);
     }
     for (int r = 0; r < 2; r++) {
         mark(r ? "DA" : "PA");
-        split(start[r], 12, 8);
+        split(total[r], 12, 8);
         for (int i = 0; i < 12; i++)
-            areas[r][i] = number(made + length - 96 + 8 * i);
+            areas[r][i] = number(made.s + made.n - 96 + 8 * i);
     }
     if (option == 2) {
         mark("MP");
@@ -143,25 +172,50 @@ static void dossier(int option, int filed, int first, int years, int records, in
         for (int i = 0; !keeps && i < 12; i++)
             split(ONE, 12, 4);
     }
+}
+
+/* A dossier in made and its plan in plan. filed: with stocks or without; planned: each year by the plan, or no plan; these
+ * two, records and kind below 0: at random. */
+static void dossier(int option, int filed, int first, int years, int planned, int records, int kind)
+{
+    /* half of them lose little of their forest and have small records, so that totals of either sign come */
+    static const uint64_t losses[4] = { 0, 2000, 50000, 300000 };
+    uint64_t keeps = draw(2), most = 1 + draw(4), share = keeps ? 1000 : 1, small = draw(4) ? 1000000 : share, areas[2][12];
+    uint64_t total[2] = { 1 + draw(!keeps && draw(2) ? 100 : 1000000000000), draw(draw(2) ? 100 : 1000000000001) };
+    int lent = planned < 0 ? draw(4) > 0 : planned, in_ten = planned < 0 ? (int)draw(11) * (int)draw(2) : 10 * planned;
+    start(&plan);
+    start(&made);
+    opening(option, filed < 0 ? draw(3) == 0 : filed, first, years, (int)keeps, total, areas);
+    if (planned < 0 && lent && years < 19 && draw(2))
+        plan_year(draw(2) ? 0 : first - 1, records, kind, small);
     for (int y = 0; y < years; y++) {
+        int by_plan = (int)draw(10) < in_ten;
         mark("YR");
         put((uint64_t)(first + y), 2);
         put(1 + draw(365), 2);
         for (int r = 0; r < 2; r++) {
             mark(r ? "CD" : "CP");
             if (keeps)
-                stay_but(areas[r], losses[draw(most)], 8);
+                stay_but(areas[r], losses[by_plan ? 1 + draw(3) : draw(most)], 8);
             else
-                split(start[r], 144, 8);
+                split(total[r], 144, 8);
         }
-        for (int k = records < 0 ? (int)draw(62) : records; k > 0; k--)
-            record(kind < 0 ? (int)draw(4) : kind, share);
+        if (lent && (by_plan || draw(3) == 0))
+            plan_year(first + y, records, kind, small);
+        if (by_plan)
+            mark("PL");
+        for (int k = by_plan ? 0 : records < 0 ? (int)draw(62) : records; k > 0; k--)
+            record(kind, share);
     }
-    mark("EN");
-    begins[records_made] = length;
+    end();
+    into = &plan;
+    if (planned < 0 && lent && years < 19 && draw(2))
+        plan_year(draw(2) ? 65535 : first + years, records, kind, small);
+    if (lent)
+        end();
 }
 
-static unsigned counts[12], positive, of_either_sign, with_stocks;
+static unsigned counts[14], positive, of_either_sign, with_stocks, with_plan;
 
 /* counts the reports with tonnes, and those with years of either sign */
 static void count_signs(const uint8_t *report, size_t n)
@@ -176,71 +230,221 @@ static void count_signs(const uint8_t *report, size_t n)
     of_either_sign += above && below;
 }
 
-static void same(const uint8_t *s, size_t n, size_t room)
+/* The answer of the proved reckoner; where no plan is lent, that of both its calls. */
+static uint32_t proved_reckon(const struct bytes *d, const struct bytes *p, uint8_t result[1500], size_t room)
+{
+    static uint8_t other[1500];
+    if (p->n)
+        return kh_am004_reckon_plan(d->s, d->n, p->s, p->n, result, room);
+    memcpy(other, result, sizeof other);
+    uint32_t a = kh_am004_reckon_plan(d->s, d->n, NULL, 0, result, room), b = kh_am004_reckon(d->s, d->n, other, room);
+    if (a != b || memcmp(result, other, sizeof other))
+        differ(d, p, "kh_am004_reckon and the call with no plan", a, b, room);
+    return a;
+}
+
+static uint32_t plainly(const struct bytes *d, const struct bytes *p, uint8_t *result, size_t room)
+{
+    return plain_reckon(d->s, d->n, p->s, p->n, result, room);
+}
+
+static void same(const struct bytes *d, const struct bytes *p, size_t room)
 {
     static uint8_t proved[1500], plain[1500];
     for (size_t k = 0; k < sizeof proved; k++)
         proved[k] = plain[k] = (uint8_t)draw(256);
-    uint32_t a = kh_am004_reckon(s, n, proved, room), b = plain_reckon(s, n, plain, room);
+    uint32_t a = proved_reckon(d, p, proved, room), b = plainly(d, p, plain, room);
     if (a != b)
-        differ(s, n, "the numbers differ", a, b, room);
+        differ(d, p, "the numbers differ", a, b, room);
     if (memcmp(proved, plain, sizeof proved))
-        differ(s, n, "the buffers differ", a, b, room);
+        differ(d, p, "the buffers differ", a, b, room);
     counts[a]++;
     if (a == KH_AM004_ACCEPTED) {
-        count_signs(proved, s[5]);
-        with_stocks += memcmp(s + 6, "ST", 2) == 0;
+        count_signs(proved, d->s[5]);
+        with_stocks += memcmp(d->s + 6, "ST", 2) == 0;
+        with_plan += plainly(d, &none, plain, room) == KH_AM004_REFUSED_PLANNED;
     }
+}
+
+static size_t some_room(void) { return draw(2) ? 1312 : draw(1400); }
+
+static const char *const marks[14] = { "HD", "ST", "PA", "DA", "MP", "YR", "CP", "CD", "FU", "EN", "LI", "PL", "PY", "VE" };
+
+/* makes room for n bytes at a place */
+static void insert(struct bytes *b, size_t at, size_t n)
+{
+    memmove(b->s + at + n, b->s + at, b->n - at);
+    b->n += n;
+}
+
+static void copy(struct bytes *b, const struct bytes *of)
+{
+    memcpy(b->s, of->s, of->n);
+    b->n = of->n;
 }
 
 static void spoil(void)
 {
-    static const char *marks[11] = { "HD", "ST", "PA", "DA", "MP", "YR", "CP", "CD", "FU", "EN", "LI" };
-    size_t n = length, k;
-    memcpy(spoilt, made, n);
-    switch (draw(9)) {
-    case 0: n = draw(n + 1); break;
-    case 1: spoilt[n] = (uint8_t)draw(256); n += 1 + draw(8); break;
-    case 2: memcpy(spoilt + draw(n - 1), marks[draw(11)], 2); break;
-    case 3: spoilt[draw(draw(2) ? 12 : n)] = (uint8_t)draw(256); break;
-    case 4: memcpy(spoilt + n - 2, marks[draw(11)], 2); n += draw(8); break;
+    uint8_t *s = spoilt.s;
+    size_t n = made.n, k;
+    copy(&spoilt, &made);
+    switch (draw(10)) {
+    case 0: spoilt.n = draw(n + 1); break;
+    case 1: s[n] = (uint8_t)draw(256); spoilt.n += 1 + draw(8); break;
+    case 2: memcpy(s + draw(n - 1), marks[draw(14)], 2); break;
+    case 3: s[draw(draw(2) ? 12 : n)] = (uint8_t)draw(256); break;
+    case 4: memcpy(s + n - 2, marks[draw(14)], 2); spoilt.n += draw(8); break;
     case 5: /* stocks, one of them any number, before some record, mostly one of the first */
-        k = begins[draw(4) ? draw(4) : draw((uint64_t)records_made)];
-        memmove(spoilt + k + 26, spoilt + k, n - k);
-        memset(spoilt + k, 0, 26);
-        memcpy(spoilt + k, "ST", 2);
-        spoilt[k + 2 + draw(24)] = (uint8_t)draw(256);
-        n += 26;
+        k = made.begins[draw(4) ? draw(4) : draw((uint64_t)made.records)];
+        insert(&spoilt, k, 26);
+        memset(s + k, 0, 26);
+        memcpy(s + k, "ST", 2);
+        s[k + 2 + draw(24)] = (uint8_t)draw(256);
+        break;
+    case 6: /* PL before some record, and perhaps nothing after it */
+        k = made.begins[draw((uint64_t)made.records)];
+        insert(&spoilt, k, 2);
+        memcpy(s + k, "PL", 2);
+        if (draw(2))
+            spoilt.n = k + 2 + draw(2);
         break;
     default: /* a record with a wrong byte, and then its end or up to three bytes more */
-        k = draw(2) ? draw((uint64_t)records_made) : draw(8);
-        n = begins[k + 1] + draw(4) * draw(2);
-        if (begins[k + 1] - begins[k] > 2)
-            spoilt[begins[k] + 2 + draw(begins[k + 1] - begins[k] - 2)] = (uint8_t)draw(256);
+        k = draw(2) ? draw((uint64_t)made.records) : draw(8);
+        spoilt.n = made.begins[k + 1] + draw(4) * draw(2);
+        if (made.begins[k + 1] - made.begins[k] > 2)
+            s[made.begins[k] + 2 + draw(made.begins[k + 1] - made.begins[k] - 2)] = (uint8_t)draw(256);
     }
-    same(spoilt, n, draw(2) ? 1312 : draw(1400));
+    same(&spoilt, &plan, some_room());
+}
+
+static int is_year(int k) { return memcmp(plan.s + plan.begins[k], "PY", 2) == 0; }
+
+/* the first record of some year of the plan, and the one after its last; the same where it has none */
+static void some_year(int *from, int *to)
+{
+    int k = plan.records > 1 ? (int)draw((uint64_t)plan.records - 1) : 0;
+    *from = *to = k;
+    if (plan.records < 2)
+        return;
+    while (!is_year(*from))
+        --*from;
+    do
+        ++*to;
+    while (*to < plan.records - 1 && !is_year(*to));
+}
+
+/* years of the plan in all, the later ones without records */
+static void more_years(int years)
+{
+    int last = 0;
+    for (int k = 0; k < plan.records; k++)
+        if (is_year(k)) {
+            last = plan.s[plan.begins[k] + 2] << 8 | plan.s[plan.begins[k] + 3];
+            years--;
+        }
+    into = &spoilt_plan;
+    into->n -= into->n ? 2 : 0;
+    into->records = 0;
+    while (years-- > 0) {
+        mark("PY");
+        put((uint64_t)++last, 2);
+    }
+    end();
+}
+
+static void spoil_plan(void)
+{
+    static const uint8_t vehicles[15] = { 'V', 'E', 1 };
+    struct bytes *b = &spoilt_plan;
+    int from, to;
+    some_year(&from, &to);
+    size_t n = plan.n, at = plan.begins[from], after = plan.begins[to];
+    copy(b, &plan);
+    switch (draw(11)) {
+    case 0: b->n = draw(n + 1); break;
+    case 1: b->s[n] = (uint8_t)draw(256); b->n += 1 + draw(8); break;
+    case 2: b->s[draw(n)] = (uint8_t)draw(256); break;
+    case 3: memcpy(b->s + plan.begins[draw((uint64_t)plan.records)], marks[draw(14)], 2); break;
+    case 4: b->s[at + 3] = (uint8_t)(b->s[at + 3] + draw(3) - 1); break;
+    case 5: /* sixty records in some year, or one more */
+        for (int k = to - from - 1 - (int)draw(2); from < to && k < 60; k++) {
+            insert(b, at + 4, 15);
+            memcpy(b->s + at + 4, vehicles, 15);
+        }
+        break;
+    case 6: /* some year taken out */
+        memmove(b->s + at, b->s + after, n - after);
+        b->n -= after - at;
+        break;
+    case 7: /* some year twice */
+        insert(b, after, after - at);
+        memcpy(b->s + after, plan.s + at, after - at);
+        break;
+    case 8: more_years(20 + (int)draw(2)); break;
+    case 9: copy(b, draw(2) ? &made : &none); break;
+    default: /* a record with a wrong byte, and perhaps its end */
+        from = (int)draw((uint64_t)plan.records);
+        b->s[plan.begins[from] + draw(16)] = (uint8_t)draw(256);
+        if (draw(2))
+            b->n = plan.begins[from + 1];
+    }
+    same(draw(8) ? &made : &plan, b, some_room());
 }
 
 static void expect(uint32_t due, size_t room)
 {
-    static uint8_t result[1312];
-    uint32_t answer = kh_am004_reckon(made, length, result, room);
+    static uint8_t result[1500];
+    uint32_t answer = proved_reckon(&made, &plan, result, room);
     if (answer != due)
-        differ(made, length, "an edge", answer, due, room);
+        differ(&made, &plan, "an edge", answer, due, room);
+}
+
+/* records whose emissions are these */
+static void emit(uint64_t grams)
+{
+    while (grams) {
+        int much = grams >= 3186300000000;
+        uint64_t part = much ? 3186300000000 : grams < 700000000000 ? grams : 700000000000;
+        mark(much ? "FU" : "LI");
+        put(much ? 1 : 3, 1);
+        put(much ? 1000000000000 : part * 300 / 220, 8);
+        grams -= part;
+    }
+}
+
+/* planned emissions as great as they may be in every year, or in one of them a gram more */
+static void at_limit(void)
+{
+    static uint8_t report[1312];
+    int first = 2000 + (int)draw(201), years = 1 + (int)draw(20), over = draw(2) ? (int)draw((uint64_t)years) : years;
+    dossier(1 + (int)draw(2), -1, first, years, 1, 0, -1);
+    if (plainly(&made, &plan, report, sizeof report)) /* a year without other emissions */
+        return;
+    start(&plan);
+    for (int y = 0; y < years; y++) {
+        const uint8_t *figures = report + KH_AM004_AT_YEAR(y);
+        uint64_t others = number(figures + KH_AM004_AT_PROJECT) + number(figures + KH_AM004_AT_DISPLACED);
+        mark("PY");
+        put((uint64_t)(first + y), 2);
+        emit((others - 1) / 19 + (y == over));
+    }
+    end();
+    same(&made, &plan, 1312);
+    expect(over < years ? 13 : 0, 1312);
 }
 
 /* another stock of a class in ST */
 static void expect_stock(uint32_t due, int class, unsigned stock)
 {
-    made[8 + 2 * class] = (uint8_t)(stock >> 8);
-    made[9 + 2 * class] = (uint8_t)stock;
+    made.s[8 + 2 * class] = (uint8_t)(stock >> 8);
+    made.s[9 + 2 * class] = (uint8_t)stock;
     expect(due, 96);
 }
 
 /* the limits of the stocks, and bytes that end in ST and with it */
 static void stock_edges(void)
 {
-    dossier(1, 1, 2020, 1, 0, -1);
+    dossier(1, 1, 2020, 1, 0, 0, -1);
     for (int c = 0; c < 11; c++) {
         expect_stock(11, c, 50001);
         expect_stock(11, c, 65535);
@@ -248,55 +452,122 @@ static void stock_edges(void)
     }
     expect_stock(11, 11, 1);
     expect_stock(11, 11, 50000);
-    length = 31;
+    made.n = 31;
     expect(1, 96);
-    length = 32;
+    made.n = 32;
     expect(11, 96);
-    made[30] = made[31] = 0;
+    made.s[30] = made.s[31] = 0;
     expect(1, 96);
+}
+
+/* a planned year that is accepted without planned records */
+static void planned_year(void)
+{
+    static uint8_t report[1312];
+    do
+        dossier(1, 0, 2020, 1, 1, 0, -1);
+    while (plainly(&made, &plan, report, sizeof report));
+}
+
+/* bytes that end with PL, what may stand after it, and the forms of a plan */
+static void plan_edges(void)
+{
+    planned_year();
+    size_t n = made.n;
+    expect(0, 96);
+    expect(10, 95);
+    made.n = n - 2;
+    expect(1, 96);
+    memcpy(made.s + n - 2, "PLEN", 4);
+    made.n = n + 2;
+    expect(2, 96);
+    copy(&plan, &none);
+    expect(13, 95);
+    made.n = n - 2;
+    expect(13, 96);
+    made.n = n - 3;
+    expect(1, 96);
+    plan.s[plan.n++] = 'E';
+    expect(12, 0);
+    plan.s[plan.n++] = 'N';
+    made.n = n - 2;
+    expect(13, 96);
+    plan.s[plan.n++] = 0;
+    made.n = 0;
+    expect(12, 96);
+}
+
+/* the least and the greatest year of a plan, years that do not rise, and its greatest numbers of years and of records */
+static void plan_forms(void)
+{
+    static const struct { int years[2]; uint32_t due; } pairs[] = {
+        { { 0, 65535 }, 0 }, { { 255, 256 }, 0 }, { { 0, 0 }, 12 }, { { 256, 255 }, 12 }, { { 65535, 65535 }, 12 },
+    };
+    dossier(1, 0, 2020, 1, 0, 0, -1);
+    for (size_t k = 0; k < sizeof pairs / sizeof *pairs; k++) {
+        start(&plan);
+        plan_year(pairs[k].years[0], 0, -1, 1);
+        plan_year(pairs[k].years[1], 0, -1, 1);
+        end();
+        expect(pairs[k].due, 96);
+    }
+    for (int years = 20; years <= 21; years++)
+        for (int records = 60; records <= 61; records++) {
+            start(&plan);
+            for (int y = 0; y < years; y++)
+                plan_year(y, records, 1, 1);
+            end();
+            expect(years == 20 && records == 60 ? 0 : 12, 96);
+            if (years == 20 && records == 60 && plan.n != KH_AM004_LONGEST_PLAN)
+                fail("no longest plan");
+        }
 }
 
 /* document 01's unmarked edges */
 static void edges(void)
 {
-    dossier(1, 0, 2020, 20, 0, -1);
+    dossier(1, 0, 2020, 20, 0, 0, -1);
     expect(0, 1312);
-    made[5] = 21;
+    made.s[5] = 21;
     expect(3, 1312);
-    dossier(2, 0, 2020, 1, 0, -1);
+    dossier(2, 0, 2020, 1, 0, 0, -1);
     expect(10, 95);
     expect(0, 96);
-    for (size_t at = 251; made[at]-- == 0; at--) /* the last cell of the first row, one less: 999,999 */
+    for (size_t at = 251; made.s[at]-- == 0; at--) /* the last cell of the first row, one less: 999,999 */
         ;
     expect(5, 1312);
-    dossier(1, 0, 2100, 1, 0, -1);
+    dossier(1, 0, 2100, 1, 0, 0, -1);
     expect(0, 96);
-    made[206] = 366 >> 8;
-    made[207] = 366 & 255;
+    made.s[206] = 366 >> 8;
+    made.s[207] = 366 & 255;
     expect(6, 1312);
 }
 
-/* the first 65,536 bytes, which `yearsheet` reads, are answered as the whole input is */
+/* the first 65,536 bytes, which `yearsheet` reads and the host of dossier and plan, are answered as the whole input is */
 static void long_inputs(void)
 {
-    static const char *marks[8] = { "EN", "YR", "FU", "VE", "NI", "LI", "CP", "??" };
-    static uint8_t result[1312];
+    static const char *const after[8] = { "EN", "YR", "FU", "VE", "NI", "LI", "PL", "??" };
+    static uint8_t result[1500];
+    struct bytes *b = &spoilt;
     for (int k = 0; k < 2000; k++) {
         if (k % 100 == 0)
-            dossier(2, 1, 2000, 20, 60, 1);
-        memcpy(spoilt, made, length);
-        for (size_t at = length; at < sizeof spoilt; at++)
-            spoilt[at] = (uint8_t)draw(256);
-        memcpy(spoilt + length - 2, marks[k % 8], 2);
+            dossier(2, 1, 2000, 20, k / 100 % 2, 60, 1);
+        copy(b, &made);
+        for (size_t at = made.n; at < sizeof b->s; at++)
+            b->s[at] = (uint8_t)draw(256);
+        memcpy(b->s + made.n - 2, after[k % 8], 2);
         if (draw(2))
-            memcpy(spoilt + length + draw(4), marks[draw(8)], 2);
+            memcpy(b->s + made.n + draw(4), after[draw(8)], 2);
         if (draw(4) == 0)
-            spoilt[draw(length)] ^= (uint8_t)draw(256);
-        size_t n = 65537 + draw(4000);
-        uint32_t whole = kh_am004_reckon(spoilt, n, result, sizeof result);
-        uint32_t first = kh_am004_reckon(spoilt, 65536, result, sizeof result);
+            b->s[draw(made.n)] ^= (uint8_t)draw(256);
+        b->n = 65537 + draw(4000);
+        uint32_t whole = proved_reckon(b, &plan, result, 1312), whole_plan = proved_reckon(&made, b, result, 1312);
+        b->n = 65536;
+        uint32_t first = proved_reckon(b, &plan, result, 1312), first_plan = proved_reckon(&made, b, result, 1312);
         if (whole == 0 || whole != first)
-            differ(spoilt, n, "a long input and its first 65,536 bytes", whole, first, sizeof result);
+            differ(b, &plan, "a long input and its first 65,536 bytes", whole, first, 1312);
+        if (whole_plan != 12 || first_plan != 12)
+            differ(&made, b, "a long plan and its first 65,536 bytes", whole_plan, first_plan, 1312);
     }
 }
 
@@ -304,34 +575,90 @@ static void *on_thread(void *unused)
 {
     static uint8_t result[1312];
     (void)unused;
-    return kh_am004_reckon(made, length, result, sizeof result) ? NULL : made;
+    return kh_am004_reckon_plan(made.s, made.n, plan.s, plan.n, result, sizeof result) ? NULL : &made;
 }
 
-static double seconds(uint32_t (*reckon)(const uint8_t *, size_t, uint8_t *, size_t))
-{
-    static uint8_t result[1312];
-    struct timespec a, b;
-    clock_gettime(CLOCK_MONOTONIC, &a);
-    for (int k = 0; k < 20; k++)
-        if (reckon(made, length, result, sizeof result))
-            fail("the longest dossier is refused");
-    clock_gettime(CLOCK_MONOTONIC, &b);
-    return (double)(b.tv_sec - a.tv_sec) + 1e-9 * (double)(b.tv_nsec - a.tv_nsec);
-}
-
-/* the longest dossier is accepted on a small stack */
+/* dossier and plan are accepted on a small stack */
 static void on_small_stack(void)
 {
     void *answer = NULL;
     pthread_attr_t small;
     pthread_t thread;
-    dossier(2, 1, 2000, 20, 60, 1);
     pthread_attr_init(&small);
-    if (length != KH_AM004_LONGEST_DOSSIER || pthread_attr_setstacksize(&small, 65536) || pthread_create(&thread, &small, on_thread, NULL))
-        fail("no longest dossier, or no thread with a stack of 64 KiB");
+    if (pthread_attr_setstacksize(&small, 65536) || pthread_create(&thread, &small, on_thread, NULL))
+        fail("no thread with a stack of 64 KiB");
     pthread_join(thread, &answer);
-    if (answer != made)
-        fail("the longest dossier is refused on a stack of 64 KiB");
+    if (answer != &made)
+        fail("a dossier is refused on a stack of 64 KiB");
+}
+
+/* twenty years by the longest plan */
+static void longest_plan(void)
+{
+    static uint8_t report[1312];
+    do
+        dossier(2, 1, 2000, 20, 1, 60, 1);
+    while (plainly(&made, &plan, report, sizeof report));
+    if (plan.n != KH_AM004_LONGEST_PLAN)
+        fail("no longest plan");
+}
+
+static void longest_dossier(void)
+{
+    dossier(2, 1, 2000, 20, 0, 60, 1);
+    if (made.n != KH_AM004_LONGEST_DOSSIER)
+        fail("no longest dossier");
+}
+
+static double seconds(uint32_t (*reckon)(const uint8_t *, size_t, const uint8_t *, size_t, uint8_t *, size_t))
+{
+    static uint8_t result[1312];
+    struct timespec a, b;
+    clock_gettime(CLOCK_MONOTONIC, &a);
+    for (int k = 0; k < 20; k++)
+        if (reckon(made.s, made.n, plan.s, plan.n, result, sizeof result))
+            fail("a dossier is refused that was accepted");
+    clock_gettime(CLOCK_MONOTONIC, &b);
+    return (double)(b.tv_sec - a.tv_sec) + 1e-9 * (double)(b.tv_nsec - a.tv_nsec);
+}
+
+static void compare_times(void)
+{
+    double proved = 1, plain = 1;
+    for (int k = 0; k < 100; k++) {
+        double a = seconds(kh_am004_reckon_plan), b = seconds(plain_reckon);
+        proved = a < proved ? a : proved;
+        plain = b < plain ? b : plain;
+    }
+    printf("the longest dossier, on a stack of 64 KiB: accepted; best time, proved %.1f us, plain C %.1f us\n", 5e4 * proved, 5e4 * plain);
+    if (proved > plain)
+        fail("the time comparison fails: the proved reckoner takes longer than plain C");
+}
+
+static void compare_bytes(void)
+{
+    for (int k = 0; k < 3000; k++) {
+        int first = 2000 + (int)draw(201);
+        dossier(1 + (int)draw(2), -1, first, 1 + (int)draw(20), -1, -1, -1);
+        same(&made, &plan, some_room());
+        dossier(1 + (int)draw(2), -1, first, 1 + (int)draw(20), -1, (int)draw(5), -1);
+        same(&made, &plan, 1312);
+        for (int s = 0; s < 10; s++)
+            spoil();
+        for (int s = 0; s < 5; s++)
+            spoil_plan();
+        at_limit();
+    }
+    printf("same number and same bytes; how often each number came:");
+    for (int k = 0; k <= 13; k++)
+        printf(" %u", counts[k]);
+    printf("\nof the accepted ones %u had tonnes, %u years of either sign, %u stocks of their own, %u planned years\n", positive,
+           of_either_sign, with_stocks, with_plan);
+    for (int k = 0; k <= 13; k++)
+        if (!counts[k])
+            fail("not every number came");
+    if (positive < counts[0] / 5 || of_either_sign < counts[0] / 20 || with_stocks < counts[0] / 5 || with_plan < counts[0] / 5)
+        fail("too few of the accepted dossiers had tonnes, years of either sign, stocks of their own, or planned years");
 }
 
 int main(int argc, char **argv)
@@ -340,36 +667,15 @@ int main(int argc, char **argv)
     seed += given;
     edges();
     stock_edges();
+    plan_edges();
+    plan_forms();
     long_inputs();
-    for (int k = 0; k < 3000; k++) {
-        int first = 2000 + (int)draw(201);
-        dossier(1 + (int)draw(2), -1, first, 1 + (int)draw(20), -1, -1);
-        same(made, length, draw(2) ? 1312 : draw(1400));
-        dossier(1 + (int)draw(2), -1, first, 1 + (int)draw(20), (int)draw(5), -1);
-        same(made, length, 1312);
-        for (int s = 0; s < 10; s++)
-            spoil();
-    }
-    printf("same number and same bytes; how often each number came:");
-    for (int k = 0; k <= 11; k++)
-        printf(" %u", counts[k]);
-    printf("\nof the accepted ones %u had tonnes, %u years of either sign, %u stocks of their own\n", positive, of_either_sign, with_stocks);
-    for (int k = 0; k <= 11; k++)
-        if (!counts[k])
-            fail("not every number came");
-    if (positive < counts[0] / 5 || of_either_sign < counts[0] / 20 || with_stocks < counts[0] / 5)
-        fail("too few of the accepted dossiers had tonnes, years of either sign, or stocks of their own");
+    compare_bytes();
+    longest_plan();
     on_small_stack();
-    if (argc > 2) /* bytes only, no times */
-        return 0;
-    double proved = 1, plain = 1;
-    for (int k = 0; k < 100; k++) {
-        double a = seconds(kh_am004_reckon), b = seconds(plain_reckon);
-        proved = a < proved ? a : proved;
-        plain = b < plain ? b : plain;
-    }
-    printf("the longest dossier, on a stack of 64 KiB: accepted; best time, proved %.1f us, plain C %.1f us\n", 5e4 * proved, 5e4 * plain);
-    if (proved > plain)
-        fail("the time comparison fails: the proved reckoner takes longer than plain C");
+    longest_dossier();
+    on_small_stack();
+    if (argc <= 2) /* otherwise bytes only, no times */
+        compare_times();
     return 0;
 }

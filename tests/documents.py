@@ -191,9 +191,10 @@ def dossier_sizes():
         wrong(document, f"the records' sizes are {sizes}")
     opening, year = sizes["HD"] + sizes["PA"] + sizes["DA"], sizes["YR"] + sizes["CP"] + sizes["CD"]
     shortest, longest = opening + year + sizes["EN"], opening + sizes["ST"] + sizes["MP"] + 20 * (year + 60 * sizes["VE"]) + sizes["EN"]
-    for name, size in (("shortest", shortest), ("longest", longest)):
-        if f"The {name} dossier has {size:,} bytes" not in text:
-            wrong(document, f"it does not say that the {name} dossier has {size:,} bytes")
+    longest_plan = dossiers.MOST_PLANNED * (sizes["PY"] + 60 * sizes["VE"]) + sizes["EN"]
+    for name, size in (("shortest dossier", shortest), ("longest dossier", longest), ("longest plan", longest_plan)):
+        if f"The {name} has {size:,} bytes" not in text:
+            wrong(document, f"it does not say that the {name} has {size:,} bytes")
 
 
 def decisions():

@@ -1,4 +1,4 @@
-/* Tests the header: each figure by its name, each refusal by its name, the lengths, and null where a length is 0.
+/* Tests the header: each figure by its name, each refusal by its name, the lengths, null where a length is 0, and plans.
  *
  *     header FIGURES.dossier FIGURES.txt CASE-A.dossier     made by tests/independent/figures.py, and case A
  *     header numbers                                        prints each number with its text
@@ -65,6 +65,21 @@ static size_t place(const char *name, size_t y)
     exit(1);
 }
 
+/* The answer by the call that takes a plan; with none the other call has the same answer and the same report. */
+static uint32_t reckon(const uint8_t *dossier, size_t length, const uint8_t *plan, size_t plan_length, uint8_t *report, size_t room)
+{
+    static uint8_t other[KH_AM004_LONGEST_REPORT];
+    for (size_t k = 0; k < room; k++)
+        other[k] = report[k];
+    uint32_t answer = kh_am004_reckon_plan(dossier, length, plan, plan_length, report, room);
+    if (plan_length == 0) {
+        expect("the answer of kh_am004_reckon", kh_am004_reckon(dossier, length, room ? other : NULL, room), answer);
+        for (size_t k = 0; k < room; k++)
+            expect("a byte that kh_am004_reckon leaves", other[k], report[k]);
+    }
+    return answer;
+}
+
 static void test_figures(const char *path, const uint8_t *report)
 {
     char name[32];
@@ -86,18 +101,25 @@ static void test_longest(const uint8_t *dossier, size_t length, const char *path
     static uint8_t report[KH_AM004_LONGEST_REPORT];
     expect("the longest dossier", KH_AM004_LONGEST_DOSSIER, (long long)length);
     expect("the longest report", KH_AM004_LONGEST_REPORT, KH_AM004_REPORT_BYTES(KH_AM004_MOST_YEARS));
-    expect("a report one byte short", kh_am004_reckon(dossier, length, report, sizeof report - 1), KH_AM004_REFUSED_BUFFER);
-    expect("the longest dossier's answer", kh_am004_reckon(dossier, length, report, sizeof report), KH_AM004_ACCEPTED);
+    expect("a report one byte short", reckon(dossier, length, NULL, 0, report, sizeof report - 1), KH_AM004_REFUSED_BUFFER);
+    expect("the longest dossier's answer", reckon(dossier, length, NULL, 0, report, sizeof report), KH_AM004_ACCEPTED);
     test_figures(path, report);
 }
 
-static void refused(const char *fault, uint32_t due, const uint8_t *dossier, size_t length, size_t room)
+/* A refusal leaves the buffer as it was. */
+static void refused_by(const char *fault, uint32_t due, const uint8_t *dossier, size_t length, const uint8_t *plan, size_t plan_length,
+                       size_t room)
 {
     uint8_t report[KH_AM004_REPORT_BYTES(1)], old[sizeof report];
     memset(report, 165, sizeof report);
     memcpy(old, report, sizeof report);
-    expect(fault, kh_am004_reckon(dossier, length, report, room), due);
+    expect(fault, reckon(dossier, length, plan, plan_length, report, room), due);
     expect("a buffer after a refusal", memcmp(report, old, sizeof report), 0);
+}
+
+static void refused(const char *fault, uint32_t due, const uint8_t *dossier, size_t length, size_t room)
+{
+    refused_by(fault, due, dossier, length, NULL, 0, room);
 }
 
 /* Case A with a byte replaced. */
@@ -132,11 +154,74 @@ static void test_refusals(const uint8_t *a, size_t length, const uint8_t *longes
 
 static void test_null(const uint8_t *a, size_t length)
 {
-    uint8_t report[KH_AM004_REPORT_BYTES(1)];
-    expect("no dossier", kh_am004_reckon(NULL, 0, report, sizeof report), KH_AM004_REFUSED_BYTES_END);
-    expect("no buffer", kh_am004_reckon(a, length, NULL, 0), KH_AM004_REFUSED_BUFFER);
-    expect("neither", kh_am004_reckon(NULL, 0, NULL, 0), KH_AM004_REFUSED_BYTES_END);
-    expect("no buffer for a cut dossier", kh_am004_reckon(a, length - 1, NULL, 0), KH_AM004_REFUSED_BYTES_END);
+    uint8_t report[KH_AM004_REPORT_BYTES(1)] = { 0 };
+    expect("no dossier", reckon(NULL, 0, NULL, 0, report, sizeof report), KH_AM004_REFUSED_BYTES_END);
+    expect("no buffer", reckon(a, length, NULL, 0, NULL, 0), KH_AM004_REFUSED_BUFFER);
+    expect("neither", reckon(NULL, 0, NULL, 0, NULL, 0), KH_AM004_REFUSED_BYTES_END);
+    expect("no buffer for a cut dossier", reckon(a, length - 1, NULL, 0, NULL, 0), KH_AM004_REFUSED_BYTES_END);
+    expect("no dossier beside a plan", reckon(NULL, 0, (const uint8_t *)"EN", 2, report, sizeof report), KH_AM004_REFUSED_BYTES_END);
+    expect("no dossier beside a plan cut", reckon(NULL, 0, (const uint8_t *)"E", 1, NULL, 0), KH_AM004_REFUSED_PLAN);
+}
+
+/* A plan of so many years from one on, with so many records in each. */
+static size_t make_plan(uint8_t *plan, int years, int first, int records, const uint8_t *record, size_t record_length)
+{
+    size_t n = 0;
+    for (int y = first; y < first + years; y++) {
+        const uint8_t head[4] = { 'P', 'Y', (uint8_t)(y >> 8), (uint8_t)y };
+        memcpy(plan + n, head, 4);
+        n += 4;
+        for (int k = 0; k < records; k++, n += record_length)
+            memcpy(plan + n, record, record_length);
+    }
+    memcpy(plan + n, "EN", 2);
+    return n + 2;
+}
+
+/* Case A with its record in a plan, which gives the same report; and the plan or the year refused. */
+static void test_plan(const uint8_t *a, size_t length)
+{
+    static uint8_t year[8192], plan[KH_AM004_LONGEST_PLAN + 16];
+    uint8_t own[KH_AM004_REPORT_BYTES(1)] = { 0 }, planned[sizeof own] = { 0 };
+    size_t room = sizeof own, fuel = length - 13, n = fuel + 4;
+    memcpy(year, a, fuel);
+    memcpy(year + fuel, "PLEN", 4);
+
+    size_t m = make_plan(plan, 3, 2019, 1, a + fuel, 11);
+    expect("case A", reckon(a, length, NULL, 0, own, room), KH_AM004_ACCEPTED);
+    expect("case A by a plan", reckon(year, n, plan, m, planned, room), KH_AM004_ACCEPTED);
+    expect("the report by a plan", memcmp(own, planned, room), 0);
+    expect("case A beside a plan", reckon(a, length, plan, m, planned, room), KH_AM004_ACCEPTED);
+    expect("the report beside a plan", memcmp(own, planned, room), 0);
+    refused_by("a plan cut", KH_AM004_REFUSED_PLAN, year, n, plan, m - 1, room);
+    refused_by("a plan cut, beside case A", KH_AM004_REFUSED_PLAN, a, length, plan, m - 1, room);
+    refused_by("a dossier for a plan", KH_AM004_REFUSED_PLAN, a, length, a, length, 0);
+    refused_by("a report one byte short", KH_AM004_REFUSED_BUFFER, year, n, plan, m, room - 1);
+
+    refused("PL without a plan", KH_AM004_REFUSED_PLANNED, year, n, room);
+    refused_by("PL and a plan without years", KH_AM004_REFUSED_PLANNED, year, n, (const uint8_t *)"EN", 2, room);
+    m = make_plan(plan, 3, 2021, 1, a + fuel, 11);
+    refused_by("PL and a plan of other years", KH_AM004_REFUSED_PLANNED, year, n, plan, m, room);
+    m = make_plan(plan, 1, 2020, 55, a + fuel, 11);
+    expect("55 times the fuel", reckon(year, n, plan, m, planned, room), KH_AM004_ACCEPTED);
+    m = make_plan(plan, 1, 2020, 56, a + fuel, 11);
+    refused_by("56 times the fuel", KH_AM004_REFUSED_PLANNED, year, n, plan, m, 0);
+}
+
+/* The longest plan, and what passes it. */
+static void test_longest_plan(const uint8_t *a, size_t length)
+{
+    static const uint8_t vehicles[15] = { 'V', 'E', 1 };
+    static uint8_t plan[KH_AM004_LONGEST_PLAN + 1024];
+    uint8_t report[KH_AM004_REPORT_BYTES(1)] = { 0 };
+    size_t m = make_plan(plan, KH_AM004_MOST_YEARS, 2020, 60, vehicles, sizeof vehicles);
+    expect("the longest plan", KH_AM004_LONGEST_PLAN, (long long)m);
+    expect("the longest plan's answer", reckon(a, length, plan, m, report, sizeof report), KH_AM004_ACCEPTED);
+    refused_by("a byte after the plan's EN", KH_AM004_REFUSED_PLAN, a, length, plan, m + 1, sizeof report);
+    m = make_plan(plan, KH_AM004_MOST_YEARS + 1, 2020, 0, vehicles, sizeof vehicles);
+    refused_by("a plan of 21 years", KH_AM004_REFUSED_PLAN, a, length, plan, m, sizeof report);
+    m = make_plan(plan, KH_AM004_MOST_YEARS, 2020, 61, vehicles, sizeof vehicles);
+    refused_by("a plan of 61 records a year", KH_AM004_REFUSED_PLAN, a, length, plan, m, sizeof report);
 }
 
 static void print_numbers(void)
@@ -159,6 +244,8 @@ int main(int argc, char **argv)
     test_longest(longest, length, argv[2]);
     test_refusals(a, a_length, longest, length);
     test_null(a, a_length);
-    printf("the header: each figure of twenty years, each refusal and null, by their names\n");
+    test_plan(a, a_length);
+    test_longest_plan(a, a_length);
+    printf("the header: each figure of twenty years, each refusal, null and plans, by their names\n");
     return 0;
 }

@@ -86,6 +86,46 @@ static int activity(struct input *in, int before, uint64_t *grams)
     return 0;
 }
 
+/* the activity records that stand here: their emissions, or the fault */
+static int activities(struct input *in, uint64_t *grams)
+{
+    int fault;
+    *grams = 0;
+    for (int k = 0; (fault = activity(in, k, grams)) == 0; k++)
+        ;
+    return fault < 0 ? -fault : 0;
+}
+
+/* whether the plan is of its form; without bytes there is none to judge */
+static int is_plan(struct input plan)
+{
+    int before = -1;
+    uint64_t grams;
+    if (plan.n == 0)
+        return 1;
+    for (int k = 0; stands(&plan, "PY"); k++) {
+        if (k == 20 || begin(&plan, "PY", 2))
+            return 0;
+        int year = (int)field(&plan, 2);
+        if (year <= before || activities(&plan, &grams))
+            return 0;
+        before = year;
+    }
+    return begin(&plan, "EN", 0) == 0 && plan.at == plan.n;
+}
+
+/* the emissions that a plan has for a year; 13 where it lacks the year */
+static int planned(struct input plan, int year, uint64_t *grams)
+{
+    while (begin(&plan, "PY", 2) == 0) {
+        int found = (int)field(&plan, 2);
+        activities(&plan, grams);
+        if (found == year)
+            return 0;
+    }
+    return 13;
+}
+
 /* the list of stocks in force: ST where it stands, otherwise the built-in one */
 static int stocks(struct input *in, unsigned stock[12])
 {
@@ -142,15 +182,17 @@ static int monitored(struct input *in, const char *mark, wide start, unsigned co
     return 0;
 }
 
-uint32_t plain_reckon(const uint8_t *dossier, size_t dossier_len, uint8_t *result, size_t result_len)
+uint32_t plain_reckon(const uint8_t *dossier, size_t dossier_len, const uint8_t *plan, size_t plan_len, uint8_t *result, size_t result_len)
 {
-    struct input in = { dossier, dossier_len, 0 };
+    struct input in = { dossier, dossier_len, 0 }, lent = { plan, plan_len, 0 };
     uint64_t area[2][12], balance[2] = { 0, 0 };
     unsigned stock[12], matrix[12][12] = { { 0 } }, factors[12][12], counted[144];
     int64_t out[8 * 20 + 4], total = 0;
     wide start[2];
     int fault;
 
+    if (!is_plan(lent))
+        return 12;
     if ((fault = begin(&in, "HD", 4)))
         return (uint32_t)fault;
     int option = (int)field(&in, 1), first = (int)field(&in, 2), n = (int)field(&in, 1);
@@ -188,14 +230,15 @@ uint32_t plain_reckon(const uint8_t *dossier, size_t dossier_len, uint8_t *resul
         int days = year % 4 == 0 && (year % 100 != 0 || year % 400 == 0) ? 366 : 365;
         if (year != first + y || d < 1 || d > days)
             return 6;
-        uint64_t emitted[2], grams = 0;
+        uint64_t emitted[2], grams;
         for (int r = 0; r < 2; r++)
             if ((fault = monitored(&in, r ? "CD" : "CP", start[r], counted, &emitted[r])))
                 return (uint32_t)fault;
-        for (int k = 0; (fault = activity(&in, k, &grams)) == 0; k++)
-            ;
-        if (fault < 0)
-            return (uint32_t)-fault;
+        int by_plan = stands(&in, "PL");
+        if (by_plan)
+            in.at += 2;
+        if ((fault = by_plan ? planned(lent, year, &grams) : activities(&in, &grams)))
+            return (uint32_t)fault;
         int64_t *f = out + 8 * y;
         for (int r = 0; r < 2; r++) {
             f[r ? 4 : 0] = (int64_t)(project(area[r], &balance[r], matrix, factors) * 11 * (unsigned)d / (300 * (unsigned)days));
@@ -203,6 +246,8 @@ uint32_t plain_reckon(const uint8_t *dossier, size_t dossier_len, uint8_t *resul
         }
         f[2] = (int64_t)grams;
         f[5] = f[3] > f[4] ? f[3] - f[4] : 0;
+        if (by_plan && 20 * f[2] >= f[1] + f[5] + f[2])
+            return 13;
         f[6] = f[0] - f[1] - f[2] - f[5];
         f[7] = f[6] < 0 ? f[6] : f[6] * 4 / 5;
         total += f[7];

@@ -4,12 +4,12 @@
     python3 tests/stored.py           runs target/bin/vectors and target/bin/ledgertrace
     python3 tests/stored.py --keep    stores what this version answers: to be run before a change of the reckoning
 
-tests/stored has what both programs of an earlier version read and wrote; its example dossiers are the last of the vectors.
+tests/stored has what both programs of an earlier version read and wrote; its example dossiers, each with its plan if it has one, are
+the last of the vectors. Vectors of a version before plans are asked with no plan.
 """
 import lzma
 import pathlib
 import re
-import struct
 import subprocess
 import sys
 
@@ -31,6 +31,8 @@ def bad_years_whole(report):
 
 # The version that brought a change of reports, and how a report of before becomes one of that version.
 CHANGES = (((2, 0), bad_years_whole),)
+# The first version whose vectors have plans (#103).
+PLANS = 2, 2
 
 
 def due_now(version, words, numbers):
@@ -41,29 +43,37 @@ def due_now(version, words, numbers):
     return " ".join(map(str, (*words, *numbers)))
 
 
-def vector_lines(version, data, lines):
-    for label, dossier, _, line in vectors.stored_vectors(data, lines):
+def ask_vectors(version, data, lines):
+    """What the program vectors reads now, and the lines due."""
+    asked, due = [], []
+    for label, dossier, plan, room, line in vectors.stored_vectors(data, lines, plans=version >= PLANS):
         number, *words = map(int, line[len(label):].split())
         size = 8 * dossier[5] + 4 if number == 0 else 0  # dossier[5] is HD's n
-        yield " ".join(map(str, (due_now(version, (label, number), words[:size]), *words[size:])))
+        asked.append(vectors.stored(label, dossier, plan, room))
+        due.append(" ".join(map(str, (due_now(version, (label, number), words[:size]), *words[size:]))))
+    return b"".join(asked), due
 
 
-def call_lines(version, data, lines):
-    for line in lines:
-        word, number, *numbers = line.split()
-        yield due_now(version, (word, number), list(map(int, numbers)))
+def ask_calls(version, data, lines):
+    """The calls are asked as they were; and the lines due."""
+    answers = (line.split() for line in lines)
+    return data, [due_now(version, (word, number), list(map(int, numbers))) for word, number, *numbers in answers]
 
 
 def written(program, data):
     return subprocess.run([ROOT / "target" / "bin" / program], input=data, stdout=subprocess.PIPE, timeout=60, check=True).stdout
 
 
+def example_vectors():
+    for path in sorted((ROOT / "examples").glob("*.dossier")):
+        plan = path.with_suffix(".plan")
+        yield vectors.stored(f"example {path.name}", path.read_bytes(), plan.read_bytes() if plan.exists() else b"", 1312)
+
+
 def keep():
     header = (ROOT / "include" / "kh_am004.h").read_text()
     version = ".".join(re.search(rf"KH_AM004_VERSION_{part} (\d+)", header)[1] for part in ("MAJOR", "MINOR"))
-    examples = (vectors.sized(f"example {path.name}".encode()) + vectors.sized(path.read_bytes()) + struct.pack(">I", 1312)
-                for path in sorted((ROOT / "examples").glob("*.dossier")))
-    for program, more in (("vectors", b"".join(examples)), ("ledgertrace", b"")):
+    for program, more in (("vectors", b"".join(example_vectors())), ("ledgertrace", b"")):
         data = (ROOT / "crates" / program / "stdin").read_bytes() + more
         for stream, content in (("stdin", data), ("stdout", written(program, data))):
             (FOLDER / f"{program}-{version}.{stream}.xz").write_bytes(lzma.compress(content, preset=9 | lzma.PRESET_EXTREME))
@@ -73,8 +83,8 @@ def ask(path):
     program, *version = re.fullmatch(r"(\w+)-(\d+)\.(\d+)\.stdin\.xz", path.name).groups()
     data = lzma.decompress(path.read_bytes())
     then = lzma.decompress(path.with_name(path.name.replace("stdin", "stdout")).read_bytes()).decode().splitlines()
-    lines = {"vectors": vector_lines, "ledgertrace": call_lines}[program]
-    due, now = list(lines(tuple(map(int, version)), data, then)), written(program, data).decode().splitlines()
+    asked, due = {"vectors": ask_vectors, "ledgertrace": ask_calls}[program](tuple(map(int, version)), data, then)
+    now = written(program, asked).decode().splitlines()
     for before, wanted, found in zip(then, due, now):
         if wanted != found:
             sys.exit(f"{path.name}: '{found[:200]}' where '{wanted[:200]}' is due, and was '{before[:200]}'")

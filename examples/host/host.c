@@ -1,5 +1,6 @@
-/* A host: reckons the dossier file it is given and prints its figures as CSV for a spreadsheet. It ends with 1 where the
- * dossier is refused, with 2 where there is none to read or the figures can't be written. */
+/* A host: reckons the dossier file it is given, by the plan file after it if there is one, and prints its figures as CSV
+ * for a spreadsheet. It ends with 1 where dossier or plan is refused, with 2 where a file can't be read or the figures
+ * can't be written. */
 #include "kh_am004.h"
 #include <stdio.h>
 
@@ -45,34 +46,34 @@ static void print_report(int first, size_t years, const uint8_t *report)
     printf("belt balance,%lld\n", (long long)number(report, KH_AM004_AT_BELT_BALANCE(years)));
 }
 
-/* These first bytes of a file settle the answer for all of it: the longest dossier has a few less. */
+/* These first bytes of a file settle the answer for all of it: the longest dossier has a few less, the longest plan far
+ * less. */
 enum { FIRST_BYTES = 65536 };
 
-/* The first bytes of a file; -1 where it can't be read. */
+/* The first bytes of a file; -1, and a line about it, where it can't be read. */
 static long read_file(const char *path, uint8_t *bytes)
 {
     FILE *file = fopen(path, "rb");
-    if (!file)
-        return -1;
-    size_t length = fread(bytes, 1, FIRST_BYTES, file);
-    int failed = ferror(file);
-    fclose(file);
+    size_t length = file ? fread(bytes, 1, FIRST_BYTES, file) : 0;
+    int failed = !file || ferror(file);
+    if (failed)
+        perror(path);
+    if (file)
+        fclose(file);
     return failed ? -1 : (long)length;
 }
 
 int main(int argc, char **argv)
 {
-    static uint8_t dossier[FIRST_BYTES], report[KH_AM004_LONGEST_REPORT];
-    if (argc != 2) {
-        fprintf(stderr, "usage: host DOSSIER\n");
+    static uint8_t dossier[FIRST_BYTES], plan[FIRST_BYTES], report[KH_AM004_LONGEST_REPORT];
+    if (argc != 2 && argc != 3) {
+        fprintf(stderr, "usage: host DOSSIER [PLAN]\n");
         return 2;
     }
-    long length = read_file(argv[1], dossier);
-    if (length < 0) {
-        perror(argv[1]);
+    long length = read_file(argv[1], dossier), plan_length = argc == 3 ? read_file(argv[2], plan) : 0;
+    if (length < 0 || plan_length < 0)
         return 2;
-    }
-    uint32_t answer = kh_am004_reckon(dossier, (size_t)length, report, sizeof report);
+    uint32_t answer = kh_am004_reckon_plan(dossier, (size_t)length, plan, (size_t)plan_length, report, sizeof report);
     if (answer != KH_AM004_ACCEPTED) {
         fprintf(stderr, "refused %u: %s\n", (unsigned)answer, kh_am004_text(answer));
         return 1;

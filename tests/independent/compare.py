@@ -3,7 +3,7 @@
 
     python3 tests/independent/compare.py LIBRARY YEARSHEET LEDGERTRACE [SEED] [ROUNDS]
 
-Where they differ it prints the seed, and target/difference has the bytes.
+Where they differ it prints the seed, target/difference has the bytes, and target/difference.plan the plan that was lent.
 """
 import collections
 import ctypes
@@ -14,17 +14,17 @@ import subprocess
 import sys
 
 import reckoner
-from dossiers import (END, FIELDS, GREATEST, activity, bare, encode, ending, forest, full, greatest, long, pieces, small, sound, spoiled,
-                      stops, typical, ways, zeros)
+from dossiers import (END, GREATEST, PLANNED, activity, any_plan, bare, boundaries, encode, ending, forest, full, greatest, long,
+                      other_plan, pieces, plan, planned, small, sound, spoiled, stops, typical, ways, zeros)
 
 ROOT = pathlib.Path(__file__).resolve().parents[2]
-NUMBERS = {"reckon": range(12), "open": (*range(6), 11), "year": (0, 1, 2, 6, 7, 8, 9), "close": (0, 10)}
+NUMBERS = {"reckon": range(14), "open": (*range(6), 11), "year": (0, 1, 2, 6, 7, 8, 9, 12, 13), "close": (0, 10)}
 
 
 # Calls on a ledger, as the program ledgertrace takes them
 
 def lent(kind, data):
-    """O opens and Y gives a year."""
+    """O opens, P lends a plan to the year calls after it, and Y gives a year."""
     return kind + struct.pack(">I", len(data)) + data
 
 
@@ -32,24 +32,27 @@ def closing(room):
     return b"C" + struct.pack(">I", room)
 
 
-def answer(ledger, kind, data, room):
+def answer(ledger, kind, data, room, lent_plan):
     if kind == b"O":
         return f"open {ledger.open(data)}"
     if kind == b"Y":
-        return f"year {ledger.year(data)}"
+        return f"year {ledger.year(data, lent_plan)}"
     number = ledger.close(bytearray(room))
     return " ".join(map(str, ("close", number, *(ledger.numbers() if number == 0 else ()))))
 
 
 def trace(calls):
-    """What is due of a list of calls: a line for each, up to the end, a cut call, an unknown one or a length above 65,536."""
-    ledger, lines, at = reckoner.Ledger(), [], 0
-    while calls[at:at + 1] in (b"O", b"Y", b"C") and len(calls) >= at + 5:
+    """What is due of a list of calls: a line for each but P, up to the end, a cut call, an unknown one or a length above 65,536."""
+    ledger, lent_plan, lines, at = reckoner.Ledger(), b"", [], 0
+    while calls[at:at + 1] in (b"O", b"P", b"Y", b"C") and len(calls) >= at + 5:
         kind, length = calls[at:at + 1], int.from_bytes(calls[at + 1:at + 5], "big")
         data = b"" if kind == b"C" else calls[at + 5:at + 5 + length]
         if length > 65536 or kind != b"C" and len(data) < length:
             break
-        lines.append(answer(ledger, kind, data, length) + "\n")
+        if kind == b"P":
+            lent_plan = data
+        else:
+            lines.append(answer(ledger, kind, data, length, lent_plan) + "\n")
         at += 5 + len(data)
     return "".join(lines)
 
@@ -60,33 +63,42 @@ def rooms(n):
     return (*range(need - 9, need + 10), 0, 1312, 1320)
 
 
-def between(rng, due, given, others):
-    """A closing, a year out of turn or a spoiled one."""
+def between(rng, due, given, others, listed):
+    """A closing, a year out of turn, a spoiled one, or the year that is due under another plan."""
     return rng.choice((
         lambda: closing(rng.choice(rooms(rng.choice((0, given, given, given + 1))))),
         lambda: lent(b"Y", encode(rng.choice(others))),
         lambda: lent(b"Y", spoiled(rng, due, rng.choice(ways(due)))),
+        lambda: lent(b"P", other_plan(rng, listed)) + lent(b"Y", encode(due)) + lent(b"P", encode(listed)),
     ))()
 
 
-def on_one_dossier(rng, head, years, others):
-    """Spoiled openings, mostly a sound one, its years in order with other calls between them, a year more."""
-    calls = [lent(b"O", spoiled(rng, head, rng.choice(ways(head)))) for _ in range(rng.choice((0, 1, 3)))]
+def on_one_dossier(rng, head, years, listed, others):
+    """Mostly its plan, spoiled openings, mostly a sound one, its years in order with other calls between them, a year more."""
+    calls = [lent(b"P", encode(listed))] if rng.random() < 0.8 else []
+    calls += [lent(b"O", spoiled(rng, head, rng.choice(ways(head)))) for _ in range(rng.choice((0, 1, 3)))]
     if rng.random() < 0.8:
         calls.append(lent(b"O", encode(head)))
     for given, due in enumerate([*years, years[-1]]):
-        calls += [between(rng, due, given, others) for _ in range(rng.choice((0, 1, 3)))]
+        calls += [between(rng, due, given, others, listed) for _ in range(rng.choice((0, 1, 3)))]
         calls.append(lent(b"Y", encode(due)))
     return calls[:rng.choice((len(calls), rng.randint(0, len(calls))))] + [closing(rng.choice(rooms(len(years))))]
 
 
+def pieces_and_plan(rng, records):
+    """The pieces of a dossier, half of the time with planned years, and a plan."""
+    records, listed = planned(rng, records) if rng.random() < 0.5 else (records, any_plan(rng, {}, []))
+    return *pieces(records), listed
+
+
 def call_list(rng):
     """Calls on some dossiers in turn; now and then an unknown one, too great a length, or a cut."""
-    known = [pieces(sound(rng, rng.choice((small, small, typical, forest, full, bare, long)))) for _ in range(4)]
-    others = [due for _, years in known for due in years]
-    calls = [call for head, years in known for call in on_one_dossier(rng, head, years, others)]
+    known = [pieces_and_plan(rng, sound(rng, rng.choice((small, small, typical, forest, full, bare, long)))) for _ in range(4)]
+    others = [due for _, years, _ in known for due in years]
+    calls = [call for head, years, listed in known for call in on_one_dossier(rng, head, years, listed, others)]
     if rng.random() < 0.2:
-        odd = rng.choice((b"X", b"o", closing(65537), b"Y" + bytes([255] * 4), lent(b"Y", bytes(65536)), closing(65536)))
+        odd = rng.choice((b"X", b"o", b"p", closing(65537), b"Y" + bytes([255] * 4), b"P" + bytes([0, 1, 0, 1]), lent(b"Y", bytes(65536)),
+                          lent(b"P", bytes(65536)), closing(65536)))
         calls.insert(rng.randrange(len(calls)), odd)
     calls = b"".join(calls)
     return calls[:rng.randrange(len(calls))] if rng.random() < 0.3 else calls
@@ -94,7 +106,7 @@ def call_list(rng):
 
 # Comparing
 
-FAULTS = {"HD": 3, "ST": 11, "PA": 4, "DA": 4, "MP": 5, "YR": 6, "CP": 7, "CD": 7, "FU": 8, "VE": 8, "NI": 8, "LI": 8}
+FAULTS = {"HD": 3, "ST": 11, "PA": 4, "DA": 4, "MP": 5, "YR": 6, "CP": 7, "CD": 7, "PL": 13, "FU": 8, "VE": 8, "NI": 8, "LI": 8}
 # Each fault in the last record, and after each record but EN: nothing, a byte, another mark.
 ENDINGS = {(number, mark, "nothing") for mark, number in FAULTS.items()} | {
     (number, mark, rest) for mark in FAULTS for number, rest in ((1, "nothing"), (1, "a byte"), (2, "another mark"))}
@@ -108,45 +120,62 @@ def first_difference(proved, due):
     return f"from character {at}\nproved: {proved[start:at + 60]!r}\nindependent: {due[start:at + 60]!r}"
 
 
+def reckoning_call(library, name, slices):
+    """A call in C over so many lent slices, of which the last is the buffer."""
+    call = getattr(library, name)
+    call.argtypes, call.restype = (ctypes.c_char_p, ctypes.c_size_t) * slices, ctypes.c_uint32
+    return call
+
+
 class Comparison:
     def __init__(self, library, yearsheet, ledgertrace, seed):
-        self.call = ctypes.CDLL(library).kh_am004_reckon
-        self.call.argtypes, self.call.restype = (ctypes.c_char_p, ctypes.c_size_t, ctypes.c_char_p, ctypes.c_size_t), ctypes.c_uint32
+        library = ctypes.CDLL(library)
+        self.call, self.call_without = reckoning_call(library, "kh_am004_reckon_plan", 3), reckoning_call(library, "kh_am004_reckon", 2)
         self.yearsheet, self.ledgertrace, self.seed, self.rng = yearsheet, ledgertrace, seed, random.Random(seed)
         self.seen, self.sheets, self.kinds = {word: collections.Counter() for word in NUMBERS}, 0, collections.Counter()
         self.endings, self.accepted = set(), collections.Counter()
 
-    def fail(self, what, data):
+    def fail(self, what, data, lent_plan=b""):
         path = ROOT / "target" / "difference"
         path.parent.mkdir(exist_ok=True)
         path.write_bytes(data)
-        sys.exit(f"{what}\nseed {self.seed}; target/difference has the {len(data)} bytes")
+        path.with_suffix(".plan").write_bytes(lent_plan)
+        sys.exit(f"{what}\nseed {self.seed}; target/difference has the {len(data)} bytes, target/difference.plan the plan's {len(lent_plan)}")
 
-    def same(self, what, proved, due, data):
+    def same(self, what, proved, due, *data):
         if proved != due:
-            self.fail(f"{what} differs {first_difference(proved, due)}", data)
+            self.fail(f"{what} differs {first_difference(proved, due)}", *data)
 
-    def independent(self, reckoned, data):
+    def independent(self, reckoned, *data):
         """What the independent reckoner makes of the bytes; demand 3 is checked on the way."""
         try:
-            return reckoned(data)
+            return reckoned(*data)
         except AssertionError as failed:
-            self.fail(str(failed), data)
+            self.fail(str(failed), *data)
 
-    def reckoning(self, data, lengths):
-        number, ledger = self.independent(lambda dossier: reckoner.reckon(dossier, bytearray(1312)), data)
+    def proved(self, data, lent_plan, buffer, room):
+        """The number by the call that takes a plan; without one, by either call, and none is null or not."""
+        if not lent_plan and self.rng.random() < 0.5:
+            return self.call_without(data, len(data), buffer, room)
+        return self.call(data, len(data), lent_plan or self.rng.choice((b"", None)), len(lent_plan), buffer, room)
+
+    def count_accepted(self, data, ledger):
+        credited = [figures[-1] for figures in ledger.years]
+        self.accepted += collections.Counter({
+            "all": 1, "tonnes": ledger.total >= 10**6, "either sign": min(credited) < 0 < max(credited), "stocks": data[6:8] == b"ST",
+            "planned": any(mark == "PL" for _, mark in boundaries(data))})
+
+    def reckoning(self, data, lent_plan, lengths):
+        number, ledger = self.independent(lambda dossier, lent: reckoner.reckon(dossier, bytearray(1312), lent), data, lent_plan)
         self.endings.add((number, *ending(data)))
         if number == 0:
-            credited = [figures[-1] for figures in ledger.years]
-            self.accepted += collections.Counter({"all": 1, "tonnes": ledger.total >= 10**6, "either sign": min(credited) < 0 < max(credited),
-                                                  "stocks": data[6:8] == b"ST"})
+            self.count_accepted(data, ledger)
         for room in lengths:
             old = self.rng.randbytes(room + 8)
-            proved, due = ctypes.create_string_buffer(old, len(old)), bytearray(old[:room])
+            buffer, due = ctypes.create_string_buffer(old, len(old)), bytearray(old[:room])
             due_number = number or ledger.close(due)
-            proved_number = self.call(data, len(data), proved, room)
-            self.same(f"the number for a buffer of {room}", proved_number, due_number, data)
-            self.same(f"a buffer of {room} and 8 bytes beyond", proved.raw.hex(), (due + old[room:]).hex(), data)
+            self.same(f"the number for a buffer of {room}", self.proved(data, lent_plan, buffer, room), due_number, data, lent_plan)
+            self.same(f"a buffer of {room} and 8 bytes beyond", buffer.raw.hex(), (due + old[room:]).hex(), data, lent_plan)
             self.seen["reckon"][due_number] += 1
 
     def printed(self, program, data):
@@ -160,28 +189,42 @@ class Comparison:
         self.same("the sheet", self.printed(self.yearsheet, data), reckoner.sheet(data), data)
         self.sheets += 1
 
-    def dossier(self, data, lengths, kind):
-        """One in ten of each kind is printed too."""
-        self.reckoning(data, lengths)
+    def dossier(self, data, lent_plan, lengths, kind):
+        """One in ten of each kind is printed too, by yearsheet, which lends no plan."""
+        self.reckoning(data, lent_plan, lengths)
         if self.kinds[kind] % 10 == 0:
             self.sheet(data)
         self.kinds[kind] += 1
 
     def dossiers(self, kind):
+        """A sound one and what becomes of it in each way, without a plan or with one that it does not use; then with planned years."""
         records = sound(self.rng, kind)
-        lengths = rooms(len(pieces(records)[1]))
-        self.dossier(encode(records), lengths, kind)
+        lengths, unused = rooms(len(pieces(records)[1])), encode(any_plan(self.rng, {}, []))
+        self.dossier(encode(records), self.rng.choice((b"", unused)), lengths, kind)
         for way in ways(records):
-            self.dossier(spoiled(self.rng, records, way), [self.rng.choice(lengths)], (kind, way))
+            self.dossier(spoiled(self.rng, records, way), self.rng.choice((b"", unused)), [self.rng.choice(lengths)], (kind, way))
+        self.planned(kind, *planned(self.rng, records), lengths)
+
+    def planned(self, kind, records, listed, lengths):
+        """A dossier of planned years with its plan, each spoilt in each way beside the other, and with other plans."""
+        data, lent_plan = encode(records), encode(listed)
+        self.dossier(data, lent_plan, lengths, (kind, planned))
+        for way in ways(records):
+            self.dossier(spoiled(self.rng, records, way), lent_plan, [self.rng.choice(lengths)], (kind, way, planned))
+        for way in ways(listed):
+            self.dossier(data, spoiled(self.rng, listed, way), [self.rng.choice(lengths)], (kind, way, plan))
+        for _ in range(3):
+            self.dossier(data, other_plan(self.rng, listed), [self.rng.choice(lengths)], (kind, other_plan))
 
     def ends(self):
-        """Bytes that end at every kind of place, of a dossier that has a record of each mark."""
+        """Bytes that end at every kind of place, of a dossier that has a record of each mark, and now and then lacks its plan."""
         run = [activity(self.rng, mark=mark) for mark in GREATEST]
-        head, years = pieces(sound(self.rng, lambda rng: small(rng) | dict(option=2, activities=0, filed=True)))
-        records = head + [record for due in years for record in due + run] + [END]
-        for mark in FIELDS:
+        head, years = pieces(sound(self.rng, lambda rng: small(rng) | dict(n=2, option=2, activities=0, filed=True)))
+        records = head + self.rng.choice((years[0] + run + years[1] + [PLANNED], years[0] + [PLANNED] + years[1] + run)) + [END]
+        listed = encode(plan(*((due[0][1][0], []) for due in years)))
+        for mark in dict(records):
             for data in stops(self.rng, records, mark):
-                self.dossier(data, [1312], stops)
+                self.dossier(data, self.rng.choice((listed, listed, b"")), [1312], stops)
 
     def calls(self):
         calls = call_list(self.rng)
@@ -196,14 +239,14 @@ class Comparison:
         print(f"{sum(self.kinds.values())} dossiers, {buffers} buffers, {self.sheets} sheets and {sum(calls)} calls: all agree, seed {self.seed}")
         for word, numbers in NUMBERS.items():
             print(f"{word}:", ", ".join(f"{number} came {self.seen[word][number]} times" for number in numbers))
-        accepted, tonnes, either, stocks = (self.accepted[name] for name in ("all", "tonnes", "either sign", "stocks"))
-        print(f"of {accepted} accepted dossiers {tonnes} had tonnes, {either} years of either sign, {stocks} stocks of their own; "
-              f"{len(self.endings)} kinds of ending")
+        accepted, tonnes, either, stocks, by_plan = (self.accepted[name] for name in ("all", "tonnes", "either sign", "stocks", "planned"))
+        print(f"of {accepted} accepted dossiers {tonnes} had tonnes, {either} years of either sign, {stocks} stocks of their own, "
+              f"{by_plan} planned years; {len(self.endings)} kinds of ending")
         for word, numbers in NUMBERS.items():
             if set(numbers) != set(self.seen[word]):
                 sys.exit(f"{word}: numbers {sorted(self.seen[word])} came, not {list(numbers)}; seed {self.seed}")
-        if tonnes < accepted / 7 or either < accepted / 10 or stocks < accepted / 5:
-            sys.exit(f"too few accepted dossiers had tonnes, years of either sign, or stocks of their own; seed {self.seed}")
+        if tonnes < accepted / 7 or either < accepted / 10 or stocks < accepted / 5 or by_plan < accepted / 5:
+            sys.exit(f"too few accepted dossiers had tonnes, years of either sign, stocks of their own, or planned years; seed {self.seed}")
         if not ENDINGS <= self.endings:
             sys.exit(f"these endings never came: {sorted(ENDINGS - self.endings)}; seed {self.seed}")
 

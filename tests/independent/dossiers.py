@@ -1,20 +1,21 @@
-"""Dossiers for the tests: sound ones of many kinds, and ways to spoil them.
+"""Dossiers and plans for the tests: sound ones of many kinds, and ways to spoil them.
 
-A dossier is a list of records, a record its mark and its fields.
+A dossier is a list of records, a record its mark and its fields; a plan is another such list.
 """
 import struct
 
-from reckoner import CLASSES, STOCK, days_of
+from reckoner import CLASSES, STOCK, Cursor, days_of, read_activities, reckon, up
 
 LIMIT = 10**12
 MOST_STOCK = 50000
 FIELDS = {"HD": "BHB", "ST": 12 * "H", "PA": 12 * "Q", "DA": 12 * "Q", "MP": 144 * "I", "YR": "HH", "CP": 144 * "Q", "CD": 144 * "Q",
-          "FU": "BQ", "VE": "BIII", "NI": "BBQH", "LI": "BQ", "EN": ""}
+          "PL": "", "FU": "BQ", "VE": "BIII", "NI": "BBQH", "LI": "BQ", "EN": "", "PY": "H"}
 BITS = {"B": 8, "H": 16, "I": 32, "Q": 64}
 WITH_FIELDS = [mark for mark, form in FIELDS.items() if form]
 SUMS = ("PA", "DA", "MP", "CP", "CD")
 GREATEST = {"FU": [3, LIMIT], "VE": [3, 1000, 1000000, 100000], "NI": [3, 2, 10**10, 10000], "LI": [3, LIMIT]}
-END = ("EN", [])
+END, PLANNED = ("EN", []), ("PL", [])
+MOST_PLANNED = 20
 
 
 # Building
@@ -61,6 +62,16 @@ def opening(option, first, n, project, belt, probabilities=None, stocks=None):
 
 def year(number, days, project, belt, *activities):
     return [("YR", [number, days]), ("CP", project), ("CD", belt), *activities]
+
+
+def plan(*years):
+    """Years, each with its number and its records."""
+    return [record for number, run in years for record in (("PY", [number]), *run)] + [END]
+
+
+def limestone(grams):
+    """Lime that emits so many grams of CO2."""
+    return "LI", [1, grams * 300 // 132]
 
 
 def case_a():
@@ -181,6 +192,53 @@ def sound(rng, kind):
     return made(rng, **kind(rng))
 
 
+# Planned years and plans
+
+def grams(run):
+    return sum(map(up, read_activities(Cursor(encode(run)))))
+
+
+def planned_run(rng, most):
+    """Records that emit at most so many grams, half of the time just that."""
+    run = [activity(rng, lambda amounts: rng.randint(0, min(amounts[1], 10))) for _ in range(rng.choice((0, 1, 5, 59)))]
+    while run and grams(run) > most:
+        run = run[:len(run) // 2]
+    wholes, rest = divmod(max(most, 0) - grams(run), grams([("LI", [1, LIMIT])]))
+    lime = [("LI", [1, LIMIT])] * wholes + [limestone(rest)]
+    return run + lime if rng.random() < 0.5 and len(run + lime) <= 60 else run
+
+
+def any_plan(rng, listed, numbers):
+    """A plan of the years listed, and of some more: of these numbers, or any others."""
+    others = [*numbers, 0, 65535, *(rng.randrange(65536) for _ in range(3))]
+    for number in rng.sample(others, rng.choice((0, 2, len(others)))):
+        if len(listed) < MOST_PLANNED:
+            listed.setdefault(number, [activity(rng) for _ in range(rng.choice((0, 1, 60)))])
+    return plan(*sorted(listed.items()))
+
+
+def planned(rng, records):
+    """A dossier with PL in some of its years, and a plan that has these years: mostly with activities that are small enough, in one dossier
+    of four with a gram too much."""
+    head, years = pieces(records)
+    _, ledger = reckon(encode(records), bytearray(1312))
+    listed, numbers, over = {}, [due[0][1][0] for due in years], rng.choice((0, 0, 0, 1))
+    for number, due, (_, project, _, _, _, displaced, _, _) in zip(numbers, years, ledger.years):
+        if rng.random() < (0.7 if project + displaced else 0.1):
+            due[3:] = [PLANNED]
+            listed[number] = planned_run(rng, (project + displaced - 1) // 19 + over)
+    numbers += [numbers[0] - 1, numbers[-1] + 1]
+    return head + [record for due in years for record in due] + [END], any_plan(rng, listed, numbers)
+
+
+def other_plan(rng, listed):
+    """The bytes of a plan spoilt, without one of its years, without any, or none."""
+    starts = [k for k, (mark, _) in enumerate(listed) if mark == "PY"]
+    k = rng.randrange(len(starts)) if starts else 0
+    less = listed[:starts[k]] + listed[[*starts, -1][k + 1]:] if starts else [END]
+    return rng.choice((spoiled(rng, listed, rng.choice(ways(listed))), encode(less), b"EN", b""))
+
+
 # Ways to spoil the records
 
 def pick(rng, records, marks=FIELDS):
@@ -256,6 +314,26 @@ def stray_stocks(rng, records):
     return records[:k] + rng.choice((extra, extra, stock_edge(rng, extra))) + records[k:]
 
 
+def stray_planned(rng, records):
+    """PL before some record or after the last: due after CD where no activity record stands."""
+    k = rng.choice((pick(rng, records), len(records)))
+    return records[:k] + [PLANNED] + records[k:]
+
+
+def planned_year_edge(rng, records):
+    """A planned year that is another's, one beside it, the first or the last that there can be, or any."""
+    k, other = pick(rng, records, ["PY"]), pick(rng, records, ["PY"])
+    number = records[other][1][0]
+    return changed(records, k, {0: rng.choice((number, number - 1, number + 1, 0, 65535, rng.randrange(65536)))})
+
+
+def many_planned(rng, records):
+    """A plan of 20 years, or of 21."""
+    numbers = [fields[0] for mark, fields in records if mark == "PY"]
+    more = range(max(numbers) + 1, 65536)[:rng.choice((MOST_PLANNED, MOST_PLANNED + 1)) - len(numbers)]
+    return records[:-1] + plan(*((number, [activity(rng)] * rng.randint(0, 1)) for number in more))
+
+
 def other_years(rng, records):
     """A year left out, twice, or in another's place."""
     head, years = pieces(records)
@@ -266,7 +344,7 @@ def other_years(rng, records):
 
 def crowded(rng, records):
     """A year of 61 activity records or more."""
-    k = pick(rng, records, ["CD"])
+    k = pick(rng, records, ["CD", "PY"])
     return records[:k + 1] + [activity(rng) for _ in range(61)] + records[k + 1:]
 
 
@@ -297,7 +375,7 @@ def stops(rng, records, mark):
 
 def cut_crowd(rng, records):
     """A 61st activity record of which little more than the mark is there."""
-    crowd = records[:pick(rng, records, ["CD"]) + 1] + [activity(rng) for _ in range(61)]
+    crowd = records[:pick(rng, records, ["CD", "PY"]) + 1] + [activity(rng) for _ in range(61)]
     return encode(crowd)[:places(crowd)[-2] + rng.randint(1, 9)]
 
 
@@ -327,9 +405,11 @@ def two_faults(rng, records):
 
 
 RECORD_WAYS = {off_by_one: WITH_FIELDS, wrapped: SUMS, head_edge: ["HD"], stock_edge: ["ST"], year_edge: ["YR"], activity_edge: GREATEST,
-               product_edge: ["VE"], misplaced: FIELDS, stray_stocks: FIELDS, other_years: ["YR"], crowded: ["CD"]}
-FIELD_WAYS = (off_by_one, wrapped, head_edge, stock_edge, year_edge, activity_edge, product_edge)
-BYTE_WAYS = {cut: FIELDS, stopped: FIELDS, cut_crowd: ["CD"], padded: FIELDS, flipped: FIELDS, other_mark: FIELDS, two_faults: FIELDS}
+               product_edge: ["VE"], misplaced: FIELDS, stray_stocks: FIELDS, stray_planned: FIELDS, planned_year_edge: ["PY"],
+               many_planned: ["PY"], other_years: ["YR"], crowded: ["CD", "PY"]}
+FIELD_WAYS = (off_by_one, wrapped, head_edge, stock_edge, year_edge, activity_edge, product_edge, planned_year_edge)
+BYTE_WAYS = {cut: FIELDS, stopped: WITH_FIELDS, cut_crowd: ["CD", "PY"], padded: FIELDS, flipped: FIELDS, other_mark: FIELDS,
+             two_faults: FIELDS}
 
 
 def ways(records):

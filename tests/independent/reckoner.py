@@ -3,9 +3,14 @@
 
     python3 tests/independent/reckoner.py < DOSSIER            prints the sheet, and checks demand 3 of it
     python3 tests/independent/reckoner.py --gap < DOSSIER      prints the total, the unrounded one, the gap and its bound
+
+Either takes --plan PLAN too, a file with the plan that is lent (#103).
 """
+import argparse
+import pathlib
 import sys
 from fractions import Fraction
+from typing import NamedTuple
 
 CLASSES = "E SE P D B M MR FF FR TP PP NF".split()
 STOCK = dict(zip(CLASSES, (9130, 13511, 5654, 4821, 0, 8415, 9240, 3986, 4265, 5654, 5654, 0)))
@@ -98,6 +103,31 @@ def activity(cursor):
     return Fraction(grams * LIMING[kind], 300) if mark == b"LI" else Fraction(grams * FUEL[kind], 100000)
 
 
+def read_activities(cursor):
+    """The exact grams of each record of a year or of a planned one."""
+    records = []
+    while cursor.sees(ACTIVITY_FIELDS):
+        require(len(records) < 60, 9)
+        records.append(activity(cursor))
+    return records
+
+
+def read_plan(plan):
+    """Each planned year with its records (#103). Zero bytes are no plan; one that is not of the form is 12, whatever its fault."""
+    cursor, years = Cursor(plan), {}
+    try:
+        while cursor.sees((b"PY",)):
+            year, = cursor.record(b"PY", (2,))
+            require(len(years) < 20 and year > max(years, default=-1), 12)
+            years[year] = read_activities(cursor)
+        if plan:
+            cursor.record(b"EN", ())
+            require(cursor.left() == 0, 12)
+    except Refused:
+        raise Refused(12) from None
+    return years
+
+
 def down(x):
     return x.numerator // x.denominator
 
@@ -119,14 +149,29 @@ class Region:
         self.exact = {c: Fraction(a) for c, a in self.areas.items()}
         self.balance = 0
 
-    def project(self, matrix, factor):
-        """The carbon of the year, rounded and exact; the areas become those that the next year starts from."""
+    def projected(self, matrix, factor):
+        """The region that the next year starts from, and the carbon of this one, rounded and exact."""
         flows = {(i, j): self.areas[i] * matrix[i, j] // 1000000 for i, j in PAIRS}
         exact = {(i, j): self.exact[i] * matrix[i, j] / 1000000 for i, j in PAIRS}
-        self.balance += sum(self.areas.values()) - sum(flows.values())
-        self.areas = {j: sum(flows[i, j] for i in CLASSES) for j in CLASSES}
-        self.exact = {j: sum(exact[i, j] for i in CLASSES) for j in CLASSES}
-        return sum(flows[p] * factor[p] for p in PAIRS), sum(exact[p] * factor[p] for p in PAIRS)
+        later = Region()
+        later.start = self.start
+        later.balance = self.balance + sum(self.areas.values()) - sum(flows.values())
+        later.areas = {j: sum(flows[i, j] for i in CLASSES) for j in CLASSES}
+        later.exact = {j: sum(exact[i, j] for i in CLASSES) for j in CLASSES}
+        return later, sum(flows[p] * factor[p] for p in PAIRS), sum(exact[p] * factor[p] for p in PAIRS)
+
+
+class Year(NamedTuple):
+    """What a year brings to the ledger: its eight figures, its exact reduction, the regions after it, the number of its records."""
+    figures: tuple
+    exact: Fraction
+    regions: tuple
+    records: int
+
+    def is_small(self):
+        """#103: whether its rounded activity is so small that it may be a planned one."""
+        _, project, activity, _, _, displaced, _, _ = self.figures
+        return 20 * activity < project + displaced + activity
 
 
 class Ledger:
@@ -159,8 +204,8 @@ class Ledger:
         self.stock, self.factor = stock, factors(stock)
         self.project, self.belt = regions
 
-    def read_year(self, cursor):
-        """The year's days and exact sums, judged; the ledger is not changed."""
+    def read_year(self, cursor, plan):
+        """The year judged and reckoned; the ledger is not changed."""
         year, days = cursor.record(b"YR", (2, 2))
         require(len(self.years) < self.n, 6)
         require(year == self.first + len(self.years) and 1 <= days <= days_of(year), 6)
@@ -171,28 +216,34 @@ class Ledger:
             counts = {p: f for p, f in self.factor.items() if self.option == 2 or p[1] == "NF"}
             table = by_pair(table)
             sums.append(Fraction(sum(table[p] * f for p, f in counts.items()) * 11, 300))
-        records = []
-        while cursor.sees(ACTIVITY_FIELDS):
-            require(len(records) < 60, 9)
-            records.append(activity(cursor))
-        return year, days, sums, records
-
-    def take(self, read):
-        year, days, (project, belt), records = read
         share = Fraction(11 * days, 300 * days_of(year))
-        carbon, carbon_exact = self.project.project(self.matrix, self.factor)
-        belt_carbon, belt_exact = self.belt.project(self.matrix, self.factor)
+        if not cursor.sees((b"PL",)):
+            return self.reckoned(share, *sums, read_activities(cursor))
+        cursor.record(b"PL", ())
+        require(year in plan, 13)
+        reckoned = self.reckoned(share, *sums, plan[year])
+        require(reckoned.is_small(), 13)
+        return reckoned
+
+    def reckoned(self, share, project, belt, records):
+        """A year by the exact emissions of its tables and of its records; the share turns projected carbon into a reference."""
+        later, carbon, carbon_exact = self.project.projected(self.matrix, self.factor)
+        belt_later, belt_carbon, belt_exact = self.belt.projected(self.matrix, self.factor)
         reference, belt_reference = down(carbon * share), down(belt_carbon * share)
         emitted, belt_emitted = up(project), up(belt)
         grams = sum(map(up, records))
         displaced = max(belt_emitted - belt_reference, 0)
         reduction = reference - emitted - grams - displaced
-        credited = down(discounted(reduction))
-        self.years.append((reference, emitted, grams, belt_emitted, belt_reference, displaced, reduction, credited))
-        self.total += credited
+        figures = reference, emitted, grams, belt_emitted, belt_reference, displaced, reduction, down(discounted(reduction))
         exact = carbon_exact * share - project - sum(records) - max(belt - belt_exact * share, 0)
-        self.exact += discounted(exact)
-        self.records += len(records)
+        return Year(figures, exact, (later, belt_later), len(records))
+
+    def take(self, year):
+        self.years.append(year.figures)
+        self.total += year.figures[-1]
+        self.exact += discounted(year.exact)
+        self.project, self.belt = year.regions
+        self.records += year.records
         self.check()
 
     def bound(self):
@@ -220,14 +271,14 @@ class Ledger:
         self.__dict__ = opened.__dict__
         return 0
 
-    def year(self, piece):
+    def year(self, piece, plan=b""):
         try:
-            cursor = Cursor(piece)
-            read = self.read_year(cursor)
+            planned, cursor = read_plan(plan), Cursor(piece)
+            year = self.read_year(cursor, planned)
             cursor.end_of_piece()
         except Refused as refused:
             return refused.number
-        self.take(read)
+        self.take(year)
         return 0
 
     def numbers(self):
@@ -242,15 +293,16 @@ class Ledger:
         return 0
 
 
-def reckon(dossier, buffer):
+def reckon(dossier, buffer, plan=b""):
     """The whole reckoning: its number and the ledger; the report in the buffer where it is 0."""
     ledger, cursor = Ledger(), Cursor(dossier)
     try:
+        planned = read_plan(plan)
         ledger.read_opening(cursor)
         for _ in range(ledger.n):
-            ledger.take(ledger.read_year(cursor))
+            ledger.take(ledger.read_year(cursor, planned))
         if cursor.sees((b"YR",)):
-            ledger.read_year(cursor)
+            ledger.read_year(cursor, planned)
         cursor.record(b"EN", ())
         require(cursor.left() == 0, 2)
     except Refused as refused:
@@ -258,8 +310,8 @@ def reckon(dossier, buffer):
     return ledger.close(buffer), ledger
 
 
-def sheet(dossier):
-    number, ledger = reckon(dossier, bytearray(1312))
+def sheet(dossier, plan=b""):
+    number, ledger = reckon(dossier, bytearray(1312), plan)
     if number:
         return f"refused {number}\n"
     lines = ["year reference project activity belt belt-reference displaced reduction credited"]
@@ -270,14 +322,21 @@ def sheet(dossier):
     return "".join(line + "\n" for line in lines)
 
 
-def gap(dossier):
-    number, ledger = reckon(dossier, bytearray(1312))
+def gap(dossier, plan=b""):
+    number, ledger = reckon(dossier, bytearray(1312), plan)
     if number:
         return f"refused {number}\n"
     return f"total {ledger.total} unrounded {ledger.exact} gap {ledger.exact - ledger.total} bound {ledger.bound()}\n"
 
 
+def main():
+    options = argparse.ArgumentParser(description=__doc__, formatter_class=argparse.RawDescriptionHelpFormatter)
+    options.add_argument("--gap", action="store_true")
+    options.add_argument("--plan", type=pathlib.Path)
+    given = options.parse_args()
+    plan = given.plan.read_bytes() if given.plan else b""
+    sys.stdout.write((gap if given.gap else sheet)(sys.stdin.buffer.read(), plan))
+
+
 if __name__ == "__main__":
-    if sys.argv[1:] not in ([], ["--gap"]):
-        sys.exit(__doc__)
-    sys.stdout.write((gap if sys.argv[1:] else sheet)(sys.stdin.buffer.read()))
+    main()

@@ -7,7 +7,7 @@ import sys
 from fractions import Fraction
 
 import reckoner
-from dossiers import areas, case_a, encode, pieces
+from dossiers import PLANNED, areas, case_a, encode, limestone, pieces, plan
 
 LITTLE = Fraction(1, 10**30)
 # the greatest stock S, years, activity records, and what the gap stays below: 4.84 S n (n + 1) + 5 n + m, worked out by hand; the
@@ -71,6 +71,18 @@ def test_stocks():
         expect(ledger.bound() == Fraction(bound), True, f"the bound of a year by the stocks {stocks} is {bound}")
 
 
+def test_planned_records():
+    """Of a planned year the plan's records count in the bound, of any other year the dossier's."""
+    head, (due,) = pieces(case_a())
+    listed = encode(plan((2019, [limestone(1)] * 60), (2020, [limestone(1)] * 3), (2021, [limestone(1)] * 7)))
+    for piece, records, bound in ((due[:3] + [PLANNED], 3, "130794.48"), (due, 1, "130792.48"), (due[:3], 0, "130791.48")):
+        ledger, which = reckoner.Ledger(), f"of {records} records taken beside a plan"
+        expect(ledger.open(encode(head)) == 0 and ledger.year(encode(piece), listed) == 0, True, f"a year {which} is given")
+        for gap, allowed, what in ((Fraction(bound) - LITTLE, True, "just below"), (Fraction(bound), False, "at")):
+            ledger.exact = ledger.total + gap
+            expect(holds(ledger), allowed, f"the gap is {what} its bound {which}")
+
+
 def test_regions():
     for name in ("project", "belt"):
         for years in (1, 2, 20):
@@ -132,6 +144,7 @@ def main():
     test_bounds()
     test_stocks()
     test_totals()
+    test_planned_records()
     test_regions()
     test_calls()
     test_rounding()

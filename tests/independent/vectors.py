@@ -3,20 +3,22 @@
 
     python3 tests/independent/vectors.py            writes stdin and stdout of crates/vectors and crates/ledgertrace
     python3 tests/independent/vectors.py --check    fails where a stored file is another
-    python3 tests/independent/vectors.py --library LIBRARY CALL    tries the stored vectors of crates/vectors on a call in C
+    python3 tests/independent/vectors.py --library LIBRARY CALL    tries the stored vectors of crates/vectors on a call in C that takes a
+                                                                   plan, and those without one on kh_am004_reckon, if it is there
 
-A vector is a label, a dossier and the length of a buffer filled with 165. Each states here its number, and the figures that tell.
+A vector is a label, a dossier, a plan and the length of a buffer filled with 165. Each states here its number, and the figures that tell.
 """
 import ctypes
 import pathlib
 import struct
 import sys
 from fractions import Fraction
+from typing import NamedTuple
 
 import reckoner
-from compare import closing, lent, trace
-from dossiers import (END, FIELDS, GREATEST, LIMIT, MOST_STOCK, areas, boundaries, case_a, changed, encode, matrix, opening, pieces, places,
-                      stays, table, year)
+from compare import closing, lent, reckoning_call, trace
+from dossiers import (END, FIELDS, GREATEST, LIMIT, MOST_PLANNED, MOST_STOCK, PLANNED, areas, boundaries, case_a, changed, encode, limestone,
+                      matrix, opening, pieces, places, plan, stays, table, year)
 
 ROOT = pathlib.Path(__file__).resolve().parents[2]
 FIGURES = "reference project activity belt belt_reference displaced reduction credited total tonnes balance belt_balance".split()
@@ -25,6 +27,7 @@ PROJECT, BELT = areas(E=700000, SE=200000, MR=90000, TP=10000), areas(E=50000, F
 MATRIX = matrix(("E", "NF", 20000), ("E", "SE", 3000), ("SE", "E", 15000), ("MR", "E", 50000), ("FR", "NF", 97200), ("NF", "E", 1000))
 NEWER = areas(E=10250, SE=12990, P=6100, D=5230, B=1840, M=9012, MR=8777, FF=4120, FR=3905, TP=6033, PP=5871)
 RUN = [("FU", [2, 1234567]), ("VE", [1, 3, 12000, 90]), ("NI", [1, 2, 50000, 4600]), ("LI", [3, 10000])]
+LITTLE = [("FU", [2, 1234]), ("VE", [1, 3, 12, 90]), ("NI", [1, 2, 5000, 4600]), ("LI", [3, 1000])]  # 21,579 g, small enough for a planned year
 
 
 # Dossiers
@@ -45,11 +48,6 @@ def emitting(*run, first=2019, days=365):
     return one_year(1, areas(NF=1), areas(), table(("NF", "NF", 1)), table(), *run, first=first, days=days)
 
 
-def limestone(grams):
-    """Lime that emits so many grams of CO2."""
-    return "LI", [1, grams * 300 // 132]
-
-
 def filing(stocks, records):
     """The records with ST after HD."""
     return [records[0], ("ST", list(stocks)), *records[1:]]
@@ -66,7 +64,31 @@ def base(option=1, n=1, run=RUN):
     return records + [END]
 
 
+def planning(records, *numbers):
+    """The dossier with PL in the years of these numbers, or in each, and their records as a plan."""
+    head, dues = pieces(records)
+    listed = []
+    for due in dues:
+        if not numbers or due[0][1][0] in numbers:
+            listed.append((due[0][1][0], due[3:]))
+            due[3:] = [PLANNED]
+    return head + [record for due in dues for record in due] + [END], plan(*listed)
+
+
 # Vectors
+
+class Vector(NamedTuple):
+    label: str
+    number: int
+    dossier: bytes
+    plan: bytes
+    room: int
+    figures: dict
+
+
+def as_bytes(given):
+    return given if isinstance(given, bytes) else encode(given)
+
 
 def index(records, mark, nth=0):
     return [k for k, record in enumerate(records) if record[0] == mark][nth]
@@ -85,12 +107,12 @@ def before(records, mark, nth=0):
     return encode(records[:index(records, mark, nth)])
 
 
-def accepted(label, records, room=None, **figures):
-    return label, 0, encode(records), 64 * records[0][1][2] + 32 if room is None else room, figures
+def accepted(label, records, room=None, plan=b"", **figures):
+    return Vector(label, 0, encode(records), as_bytes(plan), 64 * records[0][1][2] + 32 if room is None else room, figures)
 
 
-def refused(number, label, data, room=1312):
-    return label, number, data if isinstance(data, bytes) else encode(data), room, {}
+def refused(number, label, data, room=1312, plan=b""):
+    return Vector(label, number, as_bytes(data), as_bytes(plan), room, {})
 
 
 def fault(number, label, records, mark, cells, nth=0):
@@ -118,7 +140,7 @@ def examples():
 
 def edges():
     yield longest()
-    yield refused(2, "a byte after the longest dossier", longest()[2] + b"\0")
+    yield refused(2, "a byte after the longest dossier", longest().dossier + b"\0")
     yield refused(3, "n 21", put(base(), "HD", {2: 21}))
     yield refused(5, "row sum 999,999", put(base(2), "MP", {0: MATRIX[0] - 1}))
     yield refused(5, "row sum 1,000,001", put(base(2), "MP", {143: MATRIX[143] + 1}))
@@ -146,11 +168,12 @@ def longest():
 # Each cause at each place
 
 def cuts():
-    for mark, form in FIELDS.items():
-        records = filing(NEWER, base()) if mark == "ST" else base(2 if mark == "MP" else 1)
+    for mark, form in [(mark, form) for mark, form in FIELDS.items() if mark != "PY"]:
+        records, listed = planning(base(run=LITTLE)) if mark == "PL" else (base(2 if mark == "MP" else 1), b"")
+        records = filing(NEWER, records) if mark == "ST" else records
         data, (start, end) = encode(records), places(records)[index(records, mark):][:2]
-        yield refused(1, f"cut before {mark}", data[:start])
-        yield refused(1, f"cut inside the mark {mark}", data[:start + 1])
+        yield refused(1, f"cut before {mark}", data[:start], plan=listed)
+        yield refused(1, f"cut inside the mark {mark}", data[:start + 1], plan=listed)
         for f in range(min(len(form), 2)):
             yield refused(1, f"cut before field {f + 1} of {mark}", data[:start + 2 + struct.calcsize(">" + form[:f])])
         if form:
@@ -168,7 +191,7 @@ def marks():
              ("after ST", before(filing(NEWER, one), "PA"), ["PA"]), ("after PA", before(one, "DA"), ["DA"]),
              ("after DA, Option 1", before(one, "YR"), ["YR"]), ("after DA, Option 2", before(base(2), "MP"), ["MP"]),
              ("after MP", before(base(2), "YR"), ["YR"]), ("after YR", before(one, "CP"), ["CP"]), ("after CP", before(one, "CD"), ["CD"]),
-             ("after CD", before(one, "FU"), run)]
+             ("after CD", before(one, "FU"), [*run, "PL"])]
     for place, data, due in spots:
         for mark in [mark for mark in (*FIELDS, *map(str.lower, due[:2]), "??") if mark not in due]:
             yield refused(2, f"{mark} {place}", data + mark.encode())
@@ -257,21 +280,38 @@ def conversions():
     yield accepted("rows of CP other than PA", one_year(1, areas(E=5), areas(), table(("SE", "NF", 5)), table()), project=2478)
 
 
-def activities():
-    names = {"FU": ("kind", "grams"), "VE": ("kind", "count", "average", "rate"), "NI": ("source", "crop", "grams", "content"),
-             "LI": ("material", "grams")}
+FIELD_NAMES = {"FU": ("kind", "grams"), "VE": ("kind", "count", "average", "rate"), "NI": ("source", "crop", "grams", "content"),
+               "LI": ("material", "grams")}
+
+
+def least(mark):
+    return [1 if name in ("kind", "source", "crop", "material") else 0 for name in FIELD_NAMES[mark]]
+
+
+def singly(mark):
+    """Records with one field at its greatest, the others at their least."""
+    return [(mark, least(mark)[:f] + [top] + least(mark)[f + 1:]) for f, top in enumerate(GREATEST[mark])]
+
+
+def out_of_range():
+    """Records of which one field is out of range, or the product of VE, each with its name."""
     for mark, top in GREATEST.items():
-        least = [1 if name in ("kind", "source", "crop", "material") else 0 for name in names[mark]]
-        singly = [(mark, least[:f] + [top[f]] + least[f + 1:]) for f in range(len(top))]
-        yield accepted(f"{mark} with each field at its greatest", emitting(*singly))
-        for f, name in enumerate(names[mark]):
-            for value in (0, top[f] + 1)[1 - least[f]:]:
-                yield refused(8, f"{mark} {name} {value}", emitting((mark, least[:f] + [value] + least[f + 1:])))
-    for mark, f, value in (("FU", 1, 2**64 - 1), ("VE", 1, 2**32 - 1), ("NI", 2, 2**63)):
-        yield refused(8, f"{mark} {names[mark][f]} {value}", put(base(), mark, {f: value}))
-    yield accepted("VE 1000 x 1000000 x 1000", emitting(("VE", [1, 1000, 1000000, 1000])), activity=3186300000000)
+        low = least(mark)
+        for f, name in enumerate(FIELD_NAMES[mark]):
+            for value in (0, top[f] + 1)[1 - low[f]:]:
+                yield f"{mark} {name} {value}", (mark, low[:f] + [value] + low[f + 1:])
     for count, average, rate in ((1000, 1000000, 1001), (1000, 1000000, 100000)):
-        yield refused(8, f"VE {count} x {average} x {rate}", emitting(("VE", [1, count, average, rate])))
+        yield f"VE {count} x {average} x {rate}", ("VE", [1, count, average, rate])
+
+
+def activities():
+    for mark in GREATEST:
+        yield accepted(f"{mark} with each field at its greatest", emitting(*singly(mark)))
+    for name, record in out_of_range():
+        yield refused(8, name, emitting(record))
+    for mark, f, value in (("FU", 1, 2**64 - 1), ("VE", 1, 2**32 - 1), ("NI", 2, 2**63)):
+        yield refused(8, f"{mark} {FIELD_NAMES[mark][f]} {value}", put(base(), mark, {f: value}))
+    yield accepted("VE 1000 x 1000000 x 1000", emitting(("VE", [1, 1000, 1000000, 1000])), activity=3186300000000)
     yield accepted("zero quantities", emitting(("FU", [3, 0]), ("VE", [2, 0, 0, 0]), ("NI", [3, 2, 0, 0]), ("LI", [2, 0])), activity=0)
     two = base(n=2)
     yield fault(8, "a fault in the first year's last record", two, "LI", {0: 0})
@@ -319,7 +359,7 @@ def orders():
     for number, mark, records, cells in ((3, "HD", one, {0: 3}), (11, "ST", filed, {0: 50001}), (4, "PA", one, {0: 2**63}),
                                          (4, "DA", one, {0: 2**63}), (5, "MP", one, {0: 1}), (6, "YR", run, {1: 366}), (7, "CP", run, {0: 2**63}),
                                          (7, "CD", run, {0: 2**63}), (8, "FU", run, {0: 4})):
-        data = fault(number, "", records, mark, cells)[2]
+        data = fault(number, "", records, mark, cells).dossier
         yield refused(1, f"wrong {mark}, and cut", data[:-1])
         yield refused(number, f"wrong {mark}, then another mark", data + b"??")
     yield refused(3, "n 21, then wrong PA total", put(put(one, "PA", {0: 2**63}), "HD", {2: 21})[:2])
@@ -441,9 +481,9 @@ def projections():
 
 # Stocks that are filed (#102)
 
-def report(records):
+def report(records, listed=()):
     buffer = bytearray(64 * records[0][1][2] + 32)
-    return reckoner.reckon(encode(records), buffer)[0], buffer
+    return reckoner.reckon(encode(records), buffer, encode(listed))[0], buffer
 
 
 def stock_limits():
@@ -548,18 +588,308 @@ def stock_amounts():
                    project=10999989000, credited=-21999978000, unrounded=Fraction("-21999846000.132"))
 
 
+# Plans (#103)
+
+def plan_forms():
+    """Plans of the form: the year is found by its number, what else there is leaves it alone, and without PL nothing is used."""
+    one, own, due, other = base(run=[PLANNED]), base(run=LITTLE), (2019, LITTLE), [("FU", [1, LIMIT])]
+    sixty = [("VE", [1, 10, 10, 1])] * 60
+    for name, years in {"its year": [due], "the year before too": [(2018, other), due], "the year after too": [due, (2020, other)],
+                        "both years beside it": [(2018, other), due, (2020, other)], "years 0 and 65,535": [(0, other), due, (65535, other)],
+                        "255, 256 and 257": [(255, []), (256, []), (257, []), due], "2047 and 2048": [due, (2047, other), (2048, [])],
+                        "20 years, its year the last": [*((1990 + k, other) for k in range(19)), due],
+                        "20 years, its year the first": [due, *((2020 + k, other) for k in range(19))],
+                        "each field at its greatest": [due, (2020, [record for mark in GREATEST for record in singly(mark)])]}.items():
+        yield accepted(f"a plan of {name}", one, plan=plan(*years), activity=21579)
+        yield accepted(f"a plan of {name}, without PL", own, plan=plan(*years), activity=21579)
+    for mark, record in zip(GREATEST, LITTLE):
+        yield accepted(f"a plan of {mark} alone", one, plan=plan((2019, [record])))
+    for name, lent_plan in (("no plan", b""), ("EN alone", b"EN"), ("other records", plan((2019, other * 60)))):
+        yield accepted(f"{name} and a dossier without PL", own, plan=lent_plan, activity=21579)
+    yield accepted("a planned year without records", one, plan=plan((2019, [])), activity=0)
+    yield accepted("60 records in a planned year", one, plan=plan((2019, sixty)), activity=60 * 319)
+    for first, place in ((2019, "first"), (2010, "tenth"), (2000, "last")):
+        longest_plan = plan(*((first + k, sixty) for k in range(MOST_PLANNED)))
+        require(len(encode(longest_plan)) == 18082, "the longest plan has not 18,082 bytes")
+        yield accepted(f"the longest plan, its year the {place}", one, plan=longest_plan, activity=60 * 319)
+
+
+def plan_faults():
+    """Years and records of which each alone would do, but not all together."""
+    one, due, many = base(run=[PLANNED]), (2019, LITTLE), [("LI", [1, 0])] * 61
+    for name, years in {"21 years, its year the first": [due, *((2020 + k, []) for k in range(20))],
+                        "21 years, its year the last": [*((1999 + k, []) for k in range(20)), due],
+                        "22 years": [due, *((2020 + k, []) for k in range(21))], "its year twice": [due, due],
+                        "its year twice, without records once": [due, (2019, [])], "another year twice": [due, (2020, []), (2020, LITTLE)],
+                        "year 0 twice": [(0, []), (0, []), due], "year 65,535 twice": [due, (65535, []), (65535, [])],
+                        "falling years": [due, (2018, LITTLE)], "falling years before its year": [(7, []), (6, []), due],
+                        "falling years after its year": [due, (2022, []), (2021, [])],
+                        "a year below the one before, not the first": [(2000, []), due, (2010, [])],
+                        "the first year again as the third": [(2018, []), due, (2018, [])], "256 and 255": [(256, []), (255, []), due],
+                        "65,535 and 0": [due, (65535, []), (0, [])], "61 records in its year": [(2019, many)],
+                        "61 records in the year before": [(2018, many), due], "61 records in the year after": [due, (2020, many)],
+                        "61 records in the 20th year": [due, *((2020 + k, []) for k in range(18)), (2040, many)]}.items():
+        yield refused(12, f"a plan of {name}", one, plan=plan(*years))
+    full = encode(plan((2019, many[:60])))[:-2]
+    for mark in GREATEST:
+        yield refused(12, f"a plan with {mark} alone after 60 records", one, plan=full + mark.encode())
+    yield refused(12, "a plan with a wrong record after 60 records", one, plan=full + encode([("LI", [0, 0]), END]))
+
+
+def plan_records():
+    """Each field out of range, in the year that is taken and in another."""
+    one = base(run=[PLANNED])
+    for name, record in out_of_range():
+        yield refused(12, f"{name} in a plan", one, plan=plan((2019, [record])))
+    for mark, f in (("FU", 0), ("VE", 1), ("NI", 3), ("LI", 1)):
+        wrong = changed([(mark, GREATEST[mark])], 0, {f: -1})
+        for name, years in (("last in its year", [(2019, LITTLE + wrong)]), ("first in its year", [(2019, wrong + LITTLE)]),
+                            ("in the year before", [(2018, wrong), (2019, LITTLE)]), ("in the year after", [(2019, LITTLE), (2020, wrong)]),
+                            ("60th in its year", [(2019, [("LI", [1, 0])] * 59 + wrong)])):
+            yield refused(12, f"a wrong {mark} {name}", one, plan=plan(*years))
+
+
+def plan_cuts():
+    """A plan cut after each of its bytes, and bytes after EN."""
+    one, whole = base(run=[PLANNED]), encode(plan((2018, []), (2019, LITTLE)))
+    yield accepted(f"a plan of {len(whole)} bytes", one, plan=whole, activity=21579)
+    for length in range(1, len(whole)):
+        yield refused(12, f"a plan cut after {length} of its {len(whole)} bytes", one, plan=whole[:length])
+    for name, more in (("a byte 0", b"\0"), ("a line feed", b"\n"), ("P", b"P"), ("E", b"E"), ("EN", b"EN"), ("PY", b"PY"), ("PL", b"PL"),
+                       ("another year", encode(plan((2020, [])))), ("a record", encode(LITTLE[:1])), ("itself", whole)):
+        yield refused(12, f"a plan with {name} after EN", one, plan=whole + more)
+    for name, data in (("P", b"P"), ("E", b"E"), ("0", b"\0")):
+        yield refused(12, f"a plan of one byte, {name}", one, plan=data)
+        yield refused(12, f"a plan of one byte, {name}, without PL", base(), plan=data)
+    yield refused(12, "a plan of 65,536 bytes", one, plan=whole.ljust(65536, b"\0"))
+
+
+def plan_marks():
+    """A mark that is not due in a plan, before what follows there in a sound one."""
+    one, whole = base(run=[PLANNED]), encode(plan((2018, []), (2019, LITTLE)))
+    spots = places(plan((2018, []), (2019, LITTLE)))
+    for place, at, due in (("at the start of a plan", 0, ["PY", "EN"]), ("after PY", spots[1], [*GREATEST, "PY", "EN"]),
+                           ("after a plan's FU", spots[3], [*GREATEST, "PY", "EN"]), ("after a plan's LI", spots[-2], [*GREATEST, "PY", "EN"])):
+        for mark in [mark for mark in (*FIELDS, *map(str.lower, due[-2:]), "fu", "??") if mark not in due]:
+            yield refused(12, f"{mark} {place}", one, plan=whole[:at] + mark.encode() + whole[at:])
+    for record in RUN:
+        yield refused(12, f"{record[0]} before the first PY", one, plan=[record, *plan((2019, LITTLE))])
+    yield refused(12, "a dossier for a plan", one, plan=one)
+
+
+def plan_first():
+    """The plan is judged before the dossier and the buffer, whether or not it is used; a sound one leaves the dossier's number."""
+    one, run, filed = base(2), base(), filing(NEWER, base(2))
+    sixty_one = emitting(*[RUN[0]] * 61)
+    dossiers = {1: encode(run)[:-1], 2: encode(run) + b"\0", 3: put(run, "HD", {2: 0}), 4: put(run, "PA", {0: LIMIT}), 5: put(one, "MP", {0: 1}),
+                6: put(run, "YR", {1: 0}), 7: put(run, "CD", {0: 0}), 8: put(run, "LI", {0: 0}), 9: sixty_one, 11: put(filed, "ST", {11: 1}),
+                13: base(run=[PLANNED])}
+    for number, data in dossiers.items():
+        for name, wrong in (("a plan of one byte", b"E"), ("a plan of falling years", plan((1, []), (0, [])))):
+            yield refused(12, f"{name} comes before {number}", data, plan=wrong)
+        yield refused(number, f"{number} beside a plan of other years", data, plan=plan((0, RUN), (65535, RUN)))
+    for name, data in (("no bytes", b""), ("one byte", b"H"), ("bytes that are no dossier", b"??")):
+        yield refused(12, f"a plan cut, and {name}", data, plan=b"E")
+        yield refused(2 if data == b"??" else 1, f"a sound plan, and {name}", data, plan=b"EN")
+    for room in (0, 95):
+        yield refused(12, f"a plan cut, and a buffer of {room}", run, room, plan=b"E")
+        yield refused(10, f"a sound plan, and a buffer of {room}", run, room, plan=b"EN")
+    yield refused(12, "a plan cut, no bytes and no buffer", b"", 0, plan=b"E")
+
+
+def planned_places():
+    """PL anywhere but right after CD, or with a record of the year beside it."""
+    listed = plan((2019, LITTLE), (2020, LITTLE))
+    for option in (1, 2):
+        records = filing(NEWER, base(option))
+        for k in range(len(records)):
+            yield refused(2, f"PL before {records[k][0]}, Option {option}", records[:k] + [PLANNED] + records[k:], plan=listed)
+        yield refused(2, f"PL after EN, Option {option}", records + [PLANNED], plan=listed)
+    run = base()
+    for k in range(len(run)):
+        yield refused(2, f"PL in the place of {run[k][0]}", run[:k] + [PLANNED] + run[k + 1:], plan=listed)
+    for n, nth in ((1, 0), (2, 0), (2, 1)):
+        records = base(n=n, run=[PLANNED])
+        k = index(records, "PL", nth) + 1
+        for mark in [mark for mark in (*FIELDS, "pl", "fu", "??") if mark != "YR" and (mark != "EN" or k < len(records) - 1)]:
+            yield refused(2, f"{mark} after PL of year {nth + 1} of {n}", encode(records[:k]) + mark.encode(), plan=listed)
+        for record in (*LITTLE, PLANNED):
+            yield refused(2, f"{record[0]} after PL of year {nth + 1} of {n}, whole dossier", records[:k] + [record] + records[k:], plan=listed)
+    two = base(n=2)
+    k = index(two, "YR", 1)
+    yield refused(2, "PL before the second YR", two[:k] + [PLANNED] + two[k:], plan=listed)
+    yield refused(2, "pl after CD", before(run, "FU") + b"pl", plan=listed)
+    yield refused(2, "PL after 60 records, whole dossier", emitting(*RUN[:1] * 60, PLANNED), plan=listed)
+
+
+def planned_ends():
+    """Bytes that end with PL or beside it: 1 where 13 does not apply."""
+    listed = plan((2019, LITTLE), (2020, LITTLE))
+    for n, nth in ((1, 0), (2, 0), (2, 1)):
+        records = base(n=n, run=[PLANNED])
+        data = before(records, "PL", nth)
+        for name, lent_plan in (("its plan", listed), ("no plan", b"")):
+            if nth == 0 or lent_plan:
+                yield refused(1, f"no byte after CD of year {nth + 1} of {n}, {name}", data, plan=lent_plan)
+                yield refused(1, f"P alone after CD of year {nth + 1} of {n}, {name}", data + b"P", plan=lent_plan)
+        for byte in ("", "P", "Y", "E", "F", "L", "?"):
+            what = f"the byte {byte} and no more" if byte else "no byte"
+            yield refused(1, f"{what} after PL of year {nth + 1} of {n}", data + b"PL" + byte.encode(), plan=listed)
+    last = base(run=[PLANNED])[:-1]
+    yield refused(6, "YR after PL of the last year", last + [("YR", [2020, 300])], plan=listed)
+    yield refused(1, "YR cut after PL of the last year", encode(last) + b"YR\0", plan=listed)
+    for name, more in (("a byte", b"\0"), ("EN", b"EN"), ("PL", b"PL")):
+        yield refused(2, f"{name} after PL and EN", encode([*last, END]) + more, plan=listed)
+
+
+def planned_lacking():
+    """13 where the plan lacks the year, or there is no plan."""
+    one, two = base(run=[PLANNED]), base(n=2, run=[PLANNED])
+    for name, years in {"EN alone": [], "the year before": [(2018, LITTLE)], "the year after": [(2020, LITTLE)],
+                        "both years beside it": [(2018, LITTLE), (2020, LITTLE)], "years 0 and 65,535": [(0, []), (65535, [])],
+                        "the year's low byte": [(2019 % 256, [])], "the year's bytes exchanged": [(2019 % 256 * 256 + 2019 // 256, [])],
+                        "20 years without it": [(2009 + k + k // 10, []) for k in range(20)]}.items():
+        yield refused(13, f"PL and a plan of {name}", one, plan=plan(*years))
+    yield refused(13, "PL and no plan", one)
+    yield refused(13, "PL and no plan, Option 2", base(2, run=[PLANNED]))
+    for number, lacked in ((2019, "second"), (2020, "first")):
+        yield refused(13, f"PL in both years, the plan lacks the {lacked}", two, plan=plan((number, LITTLE)))
+    yield refused(13, "PL in both years and no plan", two)
+    yield refused(13, "PL in both years, a plan of the first and third", two, plan=plan((2019, LITTLE), (2021, LITTLE)))
+    own, listed = planning(base(n=2, run=LITTLE), 2020)
+    yield refused(13, "PL in the second year, a plan of the first", own, plan=plan((2019, LITTLE)))
+    yield accepted("PL in the second year, a plan of it alone", own, plan=listed, activity=21579)
+
+
+def planned_orders():
+    """13 comes right after PL, before what follows it, and after what stands before it."""
+    one, two = base(run=[PLANNED]), base(n=2, run=[PLANNED])
+    data, much = before(one, "EN"), plan((2019, RUN))
+    for name, lent_plan in (("no plan", b""), ("too much activity", much)):
+        for what, more in (("no byte", b""), ("one byte", b"E"), ("another mark", b"??"), ("PL again", b"PL"), ("FU", encode(LITTLE[:1])),
+                           ("YR", b"YR"), ("a byte after EN", b"EN\0")):
+            yield refused(13, f"{name}, then {what}", data + more, plan=lent_plan)
+        for room in (0, 95):
+            yield refused(13, f"{name}, and a buffer of {room}", one, room, plan=lent_plan)
+        yield refused(13, f"{name}, then a wrong second year", put(two, "YR", {1: 0}, 1), plan=lent_plan)
+        for number, what, mark, cells in ((6, "d 0", "YR", {1: 0}), (6, "year 2018", "YR", {0: 2018}), (7, "a wrong CP", "CP", {0: 0}),
+                                          (7, "a wrong CD", "CD", {0: 0})):
+            yield refused(number, f"{name}, after {what}", put(one, mark, cells), plan=lent_plan)
+        yield refused(2, f"{name}, after a sound FU", one[:-2] + [LITTLE[0], PLANNED, END], plan=lent_plan)
+        yield refused(8, f"{name}, after a wrong FU", one[:-2] + [("FU", [0, 0]), PLANNED, END], plan=lent_plan)
+        yield refused(9, f"{name}, after 61 records", one[:-2] + LITTLE[:1] * 61 + [PLANNED, END], plan=lent_plan)
+        yield refused(6, f"{name}, in a year more than n", put(planning(base(n=2), 2020)[0], "HD", {2: 1}), plan=lent_plan)
+    yield refused(10, "planned years and a buffer of 159", two, 159, plan=plan((2019, LITTLE), (2020, LITTLE)))
+    yield accepted("planned years and a buffer of 168", two, 168, plan=plan((2019, LITTLE), (2020, LITTLE)))
+
+
+def emitted(project, belt=0, displaced=True):
+    """A planned year in which a unit of P, and in the belt one of E, turn into NF, by such stocks; the belt's loss is displaced, or foreseen."""
+    foreseen = matrix() if displaced else matrix(("E", "NF", 1000000))
+    records = one_year(2, areas(P=1), areas(E=1), table(("P", "NF", 1)), table(("E", "NF", 1)), PLANNED, probabilities=foreseen)
+    return filing(areas(P=project, E=belt), records)
+
+
+def just_small(label, records, most, number=2019, **figures):
+    """The greatest activity that is small enough beside these figures, and one gram more."""
+    lime = [limestone(most)] if most else []
+    yield accepted(f"{label}, activity {most}", records, plan=plan((number, lime)), activity=most, **figures)
+    yield refused(13, f"{label}, activity {most + 1}", records, plan=plan((number, [limestone(most + 1)])))
+
+
+def planned_shares():
+    """20 x activity below project + displaced + activity, and where it is just not."""
+    forest, bare = areas(E=5700), areas(NF=1)
+    gone, stay, turned = table(("E", "NF", 5700)), stays(bare), matrix(("E", "NF", 1000000))
+    lost = one_year(1, forest, areas(), gone, table(), PLANNED)
+    yield accepted("project 1,908,170, limestone 228,247 g", lost, plan=plan((2019, [("LI", [1, 228247])])), project=1908170, displaced=0,
+                   activity=100429)
+    yield refused(13, "project 1,908,170, limestone 228,248 g", lost, plan=plan((2019, [("LI", [1, 228248])])))
+    yield from just_small("project 1,908,170, Option 2", one_year(2, forest, areas(), gone, table(), PLANNED), 100429, project=1908170)
+    belt = one_year(2, bare, forest, stay, gone, PLANNED)
+    yield from just_small("displaced 1,908,170", belt, 100429, project=0, displaced=1908170)
+    half, both = areas(E=2850), table(("E", "NF", 2850))
+    yield from just_small("project and displaced 954,085", one_year(2, half, half, both, both, PLANNED), 100429, project=954085, displaced=954085)
+    part = one_year(2, bare, forest, stay, gone, PLANNED, probabilities=turned, days=364)
+    yield from just_small("belt 1,908,170, displaced 5,228", part, 275, belt=1908170, displaced=5228)
+    second = years_of(2, 2019, 2, bare, forest, (stay, gone), turned)[:-1] + [PLANNED, END]  # foreseen in the first year, displaced in this one
+    yield from just_small("displaced 1,908,170 in the second year", second, 100429, 2020, belt_reference=0, displaced=1908170)
+    spared = one_year(2, forest, areas(), stays(forest), table(), PLANNED, probabilities=turned)
+    yield refused(13, "a reference, nothing lost and no activity", spared, plan=plan((2019, [])))
+
+
+def planned_grams():
+    """The same of a few grams: each figure as it is rounded, the belt only as far as it is displaced, the activity on both sides."""
+    for stock, grams, most in ((27, 1, 0), (28, 2, 0), (518, 19, 0), (545, 20, 1), (1036, 38, 1), (1063, 39, 2), (1554, 57, 2), (1581, 58, 3)):
+        for name, stocks, figures in (("project", (stock, 0), dict(project=grams, displaced=0)),
+                                      ("displaced", (0, stock), dict(project=0, displaced=grams))):
+            yield from just_small(f"{name} {grams}", emitted(*stocks), most, **figures)
+        yield from just_small(f"project {grams} and a belt foreseen", emitted(stock, 30000, False), most, project=grams, belt=1100, displaced=0)
+    for name, records in (("nothing lost", emitted(0)), ("only a belt foreseen", emitted(0, 30000, False)), ("no forest", emitting(PLANNED))):
+        for what, run in (("no activity", []), ("zero quantities", [("FU", [3, 0]), ("LI", [2, 0])]), ("activity 1", [limestone(1)])):
+            yield refused(13, f"{name}, {what}", records, plan=plan((2019, run)))
+    thrice = plan((2019, [("LI", [1, 1])] * 3))  # 0.44 g each
+    yield accepted("project 58, three records of a gram each", emitted(1581), plan=thrice, project=58, activity=3)
+    yield refused(13, "project 57, three records of a gram each", emitted(1554), plan=thrice)
+    pair = table(("D", "D", 1), ("MR", "M", 1))  # the belt loses 30.25 g, its reference is 20.39 g
+    records = one_year(2, areas(P=1), areas(D=1, MR=1), table(("P", "NF", 1)), pair, PLANNED, probabilities=matrix(("D", "FR", 1000000)))
+    listed = areas(D=4821, FR=4265, MR=9240, M=8415, P=5427)
+    yield from just_small("project 199, displaced 11 of rounded figures", filing(listed, records), 11, project=199, displaced=11)
+
+
+def planned_years():
+    """Planned years come to the report that the same records make in the dossier; only they are held to a small activity."""
+    for option in (1, 2):
+        own = base(option, 3, LITTLE)
+        for numbers in ((2019, 2020, 2021), (2019,), (2020,), (2021,), (2019, 2021)):
+            records, listed = planning(own, *numbers)
+            require(report(records, listed) == report(own), "planned years make another report than their records")
+            yield accepted(f"PL in {', '.join(map(str, numbers))}, Option {option}", records, plan=listed)
+    for number in (2019, 2020):
+        mixed = base(n=2)
+        k = index(mixed, "CD", number - 2019) + 1
+        mixed[k:k + 4] = [PLANNED]
+        yield accepted(f"PL in {number}, much activity in the other year", mixed, plan=plan((number, LITTLE)))
+        yield refused(13, f"PL in {number}, much activity in it", mixed, plan=plan((number, RUN)))
+        yield accepted(f"PL in {number}, much planned for the other year", mixed, plan=plan(*sorted({2019: RUN, 2020: RUN, number: LITTLE}.items())))
+    two = base(n=2, run=[PLANNED])
+    for k, name in ((0, "first"), (1, "second")):
+        runs = [RUN if k == y else LITTLE for y in range(2)]
+        yield refused(13, f"two planned years, much in the {name}", two, plan=plan(*zip((2019, 2020), runs)))
+    yield accepted("each planned year by its own number", base(n=3, run=[PLANNED]), activity=1,
+                   plan=plan((2018, RUN), (2019, LITTLE), (2020, []), (2021, [limestone(1)]), (2022, RUN)))
+    yield accepted("own records, more of them in the plan", base(n=2, run=LITTLE), plan=plan((2019, RUN), (2020, RUN * 15)), activity=21579)
+    leap = planning(years_of(1, 2099, 3, PROJECT, BELT, (table(("E", "NF", sum(PROJECT))), stays(BELT)), run=LITTLE), 2099, 2101)
+    yield accepted("PL in 2099 and 2101", leap[0], plan=leap[1])
+
+
+def planned_amounts():
+    """Twenty planned years of sixty records, and the greatest amounts."""
+    for option in (1, 2):
+        records, listed = planning(base(option, 20, [("VE", [1, 10, 10, 1])] * 60))
+        yield accepted(f"20 planned years of 60 records, Option {option}", records, plan=listed, activity=60 * 319)
+    mixed, listed = planning(base(1, 20, LITTLE), *range(2020, 2039, 2))
+    yield accepted("20 years, every other one planned", mixed, plan=listed, activity=21579)
+    vast, gone, most = areas(SE=LIMIT), table(("SE", "NF", LIMIT)), [("VE", [1, 1000, 10000, 100000])] * 60
+    records, listed = planning(filing(areas(SE=MOST_STOCK), years_of(2, 2200, 20, vast, vast, (gone, gone), run=most)))
+    yield accepted("20 planned years of the greatest amounts", records, plan=listed, project=1833333333333334, displaced=1833333333333334,
+                   activity=191178000000000)
+    records, listed = planning(filing(areas(SE=MOST_STOCK), years_of(2, 2200, 1, vast, areas(), (gone, table()), run=most)))
+    yield refused(13, "a planned year of the greatest amounts without a belt", records, plan=listed)
+
+
 # Where the bytes end
 
 def record_ends():
-    """Each wrong field of the vectors above, where the bytes end with its record: the number is the same."""
+    """Each wrong field and PL of the vectors above, where the bytes end with the record: the number is the same."""
     above = [vector for section in VECTORS[:VECTORS.index(record_ends)] for vector in section()]
-    seen = {data for _, _, data, _, _ in above}
-    for label, number, data, room, _ in above:
-        if number in (*range(3, 9), 11):
-            short = next(data[:end] for end, _ in boundaries(data) if reckoner.reckon(data[:end], bytearray(room))[0] == number)
-            if short not in seen:
-                seen.add(short)
-                yield refused(number, f"{label}, and no byte more", short)
+    seen = {(vector.dossier, vector.plan) for vector in above}
+    for label, number, data, lent_plan, room, _ in above:
+        if number in (*range(3, 9), 11, 13):
+            short = next(data[:end] for end, _ in boundaries(data) if reckoner.reckon(data[:end], bytearray(room), lent_plan)[0] == number)
+            if (short, lent_plan) not in seen:
+                seen.add((short, lent_plan))
+                yield refused(number, f"{label}, and no byte more", short, plan=lent_plan)
 
 
 def calendar():
@@ -589,8 +919,8 @@ def last_marks():
     spots += [(f"after {mark}", before(one, after), run) for mark, after in (("FU", "VE"), ("VE", "NI"), ("NI", "LI"), ("LI", "EN"))]
     spots += [("after 60 records", encode(full[:-1]), run), ("after the first of two years", before(two, "YR", 1), run[:-1]),
               ("after the second YR", before(two, "CP", 1), ["CP"]), ("after the second CP", before(two, "CD", 1), ["CD"]),
-              ("after the second CD", before(two, "FU", 1), run), ("after EN", encode(one), [])]
-    known = {label for section in (marks, endings) for label, *_ in section()}
+              ("after the second CD", before(two, "FU", 1), [*run, "PL"]), ("after EN", encode(one), [])]
+    known = {vector.label for section in (marks, endings) for vector in section()}
     for place, data, due in spots:
         for mark in [mark for mark in (*FIELDS, "??") if mark not in due and f"{mark} {place}" not in known]:
             yield refused(2, f"{mark} {place}" + (", two bytes" if place == "after EN" else ""), data + mark.encode())
@@ -606,15 +936,20 @@ def full_buffers():
 # The calls on a ledger, each with its number
 
 def opens(number, data):
-    return number, lent(b"O", data if isinstance(data, bytes) else encode(data))
+    return number, lent(b"O", as_bytes(data))
 
 
 def gives(number, data):
-    return number, lent(b"Y", data if isinstance(data, bytes) else encode(data))
+    return number, lent(b"Y", as_bytes(data))
 
 
 def closes(number, room):
     return number, closing(room)
+
+
+def lends(data):
+    """No call of the ledger's: the year calls after it are lent this plan, or none."""
+    return None, lent(b"P", as_bytes(data))
 
 
 def empty_ledger():
@@ -681,45 +1016,115 @@ def filed_ledgers():
         yield from (opens(0, plain), closes(0, 32), gives(0, dues[0]), closes(0, 96), opens(11, head[:1] + wrong), gives(6, dues[0]), closes(0, 32))
 
 
+# Plans lent to a ledger's years (#103)
+
+def bad_plans():
+    """A plan with a fault is 12 whatever the piece, on a ledger that is empty, has years to come, or is full; openings and closings take none."""
+    head, (due,) = pieces(base(run=LITTLE))
+    own, by_plan, sound = encode(due), encode(due[:3] + [PLANNED]), encode(plan((2019, LITTLE)))
+    yield from (opens(0, head), gives(13, by_plan), closes(0, 32))  # before the first P there is no plan
+    for ready, room in (((opens(1, head[:2]),), 32), ((opens(0, head),), 32), ((opens(0, head), gives(0, own)), 96)):
+        yield from (lends(b"EN"), *ready)
+        for wrong in (b"E", b"PY", encode(plan((2019, []), (2019, []))), sound + b"\0"):
+            yield lends(wrong)
+            for piece in (own, by_plan, b"", b"Y", b"??", own + b"F", due[:1]):
+                yield gives(12, piece)
+            yield from (closes(0, room), closes(10, room - 1))
+    for lent_plan in (sound, b"EN", b""):
+        yield from (lends(lent_plan), gives(6, own), gives(6, by_plan), gives(1, b""), gives(1, b"Y"), gives(2, b"??"), closes(0, 96))
+    yield from (lends(sound.ljust(65536, b"\0")), opens(1, head[:2]), gives(12, own), opens(0, head), gives(12, own), closes(0, 32))
+    yield from (lends(b""), gives(0, own), closes(0, 96))
+
+
+def planned_pieces():
+    """What may stand beside PL in a year piece, in each of three years."""
+    head, dues = pieces(base(2, 3, LITTLE))
+    listed = plan(*((due[0][1][0], LITTLE) for due in dues))
+    yield from (opens(0, head), lends(listed))
+    for y, due in enumerate(dues):
+        tables, piece = due[:3], encode(due[:3] + [PLANNED])
+        for byte in (b"P", b"Y", b"F", b"\0"):
+            yield from (gives(1, piece + byte), gives(1, encode(tables) + byte))
+        yield from (gives(1, piece[:-3]), closes(0, 64 * y + 32))
+        for mark in ("PL", "YR", "EN", "PY", "??", *GREATEST):
+            yield gives(2, piece + mark.encode())
+        yield from (gives(2, piece + encode(LITTLE)), gives(2, encode(due) + b"PL"), gives(2, encode(tables[:2]) + b"PL"), gives(2, b"PL"))
+        yield from (gives(2, encode(tables) + b"pl"), gives(2, due[:1] + [PLANNED] + due[1:]), closes(0, 64 * y + 32))
+        yield from (gives(7, put(tables, "CD", {0: 0}) + [PLANNED]), gives(6, put(tables, "YR", {1: 0}) + [PLANNED]))
+        yield from (gives(9, tables + LITTLE[:1] * 61 + [PLANNED]), gives(8, tables + [("FU", [0, 0]), PLANNED]), closes(0, 64 * y + 32))
+        yield from (gives(0, piece), closes(0, 64 * y + 96), closes(10, 64 * y + 95))
+    yield from (gives(6, encode(dues[2][:3] + [PLANNED])), lends(b""))
+
+
+def changing_plans():
+    """13 by one plan, 12 by the next, and accepted by a third: each year goes by the plan that it is lent, which a new opening leaves."""
+    head, dues = pieces(base(1, 3, [PLANNED]))
+    for y, due in enumerate(dues):
+        number = 2019 + y
+        yield from (opens(0, head), lends(b"")) if y == 0 else ()
+        yield from (lends(b""), gives(13, due), gives(13, encode(due) + b"P"), gives(13, encode(due) + b"??"), closes(0, 64 * y + 32))
+        for years in ([], [(number - 1, LITTLE)], [(number + 1, LITTLE)], [(number, RUN)], [(number - 1, LITTLE), (number + 1, LITTLE)]):
+            yield from (lends(plan(*years)), gives(13, due), closes(0, 64 * y + 32))
+        yield from (lends(plan((number, LITTLE)) + [END]), gives(12, due), closes(0, 64 * y + 32))
+        yield from (lends(plan((number, LITTLE[:y + 1]))), gives(0, due), closes(0, 64 * y + 96), closes(10, 64 * y + 95))
+    yield from (gives(6, dues[2]), lends(plan((2019, LITTLE), (2020, []))), opens(0, head), gives(0, dues[0]), opens(1, head[:2]), gives(6, dues[0]))
+    yield from (opens(0, head), gives(0, dues[0]), gives(0, dues[1]), gives(13, dues[2]), closes(0, 160))
+    yield from (opens(0, head), lends(plan((2019, LITTLE))), lends(plan((2019, RUN))), gives(13, dues[0]), lends(b""), closes(0, 32))
+
+
 # The calls that every vector's dossier makes
 
 def cut_up(data):
     """The opening and the years of a dossier's bytes: a piece begins with each YR that is due, and a last EN after a year is left out."""
-    starts, whole, due = [0], data, {"DA": data[2:3] != b"\2", "MP": data[2:3] == b"\2"} | dict.fromkeys(("CD", *GREATEST), True)
+    closing_marks = ("CD", "PL", *GREATEST)
+    starts, whole, due = [0], data, {"DA": data[2:3] != b"\2", "MP": data[2:3] == b"\2"} | dict.fromkeys(closing_marks, True)
     for end, mark in boundaries(data):
         if due.get(mark) and data[end:end + 2] == b"YR":
             starts.append(end)
-        if mark in ("CD", *GREATEST) and data[end:] == b"EN":
+        if mark in closing_marks and data[end:] == b"EN":
             whole = data[:end]
     return [whole[a:b] for a, b in zip(starts, [*starts[1:], len(whole)])]
 
 
 def paths():
-    """The pieces of each dossier that are accepted, and the first one that is refused with its number, if one is."""
-    for label, due, data, _, _ in (vector for section in VECTORS for vector in section()):
+    """The pieces of each dossier that are accepted, and the first one that is refused with its number, if one is; years with the plan lent."""
+    for label, due, data, lent_plan, _, _ in (vector for section in VECTORS for vector in section()):
         ledger, taken = reckoner.Ledger(), []
         for piece in cut_up(data):
-            number = ledger.year(piece) if taken else ledger.open(piece)
+            step = (piece, lent_plan) if taken else (piece, None)
+            number = ledger.year(*step) if taken else ledger.open(piece)
             if number:
-                require(number == due, f"{label}: a piece of it is answered {number} where {due} is due")
-                yield taken, (number, piece)
+                require(number == due or due == 12 and not taken, f"{label}: a piece of it is answered {number} where {due} is due")
+                yield taken, (number, step)
                 break
-            taken.append(piece)
+            taken.append(step)
         else:
             require(due in (0, 10) or (due == 1 or data.endswith(b"EN")) and len(ledger.years) <= ledger.n, f"{label}: no piece is refused")
             yield taken, None
 
 
-def after(taken, number, piece):
-    """A piece given after so many others, and what closing gives then."""
+def after(taken, number, step):
+    """A piece given after so many others, and what closing gives then; each call with the plan that it needs, if it does."""
+    piece, lent_plan = step
     room = 64 * (taken + (number == 0) - 1) + 32 if taken or number == 0 else 32
-    yield gives(number, piece) if taken else opens(number, piece)
-    yield closes(0, room)
+    yield lent_plan, gives(number, piece) if taken else opens(number, piece)
+    yield None, closes(0, room)
     if number == 0:
-        yield closes(10, room - 1)
+        yield None, closes(10, room - 1)
 
 
-def every_dossier():
+def lending(calls):
+    """The calls, and a plan before each that needs another one than stands; none stands in the end."""
+    stands = b""
+    for lent_plan, call in (*calls, (b"", None)):
+        if lent_plan not in (None, stands):
+            yield lends(lent_plan)
+            stands = lent_plan
+        if call:
+            yield call
+
+
+def pieces_of_vectors():
     """The opening and the years of every vector, a closing after each; what is refused at one place is tried there on one ledger."""
     wrong, sound = {}, {}
     for taken, fault in paths():
@@ -731,10 +1136,14 @@ def every_dossier():
         for k in range(len(path) + 1):
             if path[:k] not in tried:
                 tried.add(path[:k])
-                for piece, number in wrong.get(path[:k], {}).items():
-                    yield from after(k, number, piece)
+                for step, number in wrong.get(path[:k], {}).items():
+                    yield from after(k, number, step)
             if k < len(path):
                 yield from after(k, 0, path[k])
+
+
+def every_dossier():
+    yield from lending(pieces_of_vectors())
 
 
 def second_years():
@@ -755,8 +1164,11 @@ def second_years():
 
 VECTORS = (examples, edges, cuts, marks, heads, totals, rows, years, conversions, activities, kinds, sixty, endings, orders, buffers,
            slips, roundings, bad_years, every_class, projections, stock_limits, stock_cuts, stock_places, stock_lists, stock_orders,
-           stock_amounts, record_ends, calendar, last_marks, full_buffers)
-CALLS = (empty_ledger, refused_openings, case_a_ledger, three_years, opened_again, filed_ledgers, every_dossier, second_years)
+           stock_amounts, plan_forms, plan_faults, plan_records, plan_cuts, plan_marks, plan_first, planned_places, planned_ends,
+           planned_lacking, planned_orders, planned_shares, planned_grams, planned_years, planned_amounts, record_ends, calendar, last_marks,
+           full_buffers)
+CALLS = (empty_ledger, refused_openings, case_a_ledger, three_years, opened_again, filed_ledgers, bad_plans, planned_pieces, changing_plans,
+         every_dossier, second_years)
 
 
 def require(holds, what):
@@ -764,11 +1176,11 @@ def require(holds, what):
         sys.exit(what)
 
 
-def line(label, due, data, room, figures):
+def line(label, due, data, lent_plan, room, figures):
     """The vector's line, which has the number and the figures stated of the last year. An unrounded total that is stated is held to the
     independent reckoner's alone, for no call reports it."""
     buffer = bytearray([165] * room)
-    number, ledger = reckoner.reckon(data, buffer)
+    number, ledger = reckoner.reckon(data, buffer, lent_plan)
     require(number == due, f"{label}: {number} where {due} is due")
     found = dict(zip(FIGURES, ledger.numbers()[-12:]), unrounded=ledger.exact)
     for name, figure in figures.items():
@@ -781,12 +1193,17 @@ def sized(data):
     return struct.pack(">I", len(data)) + data
 
 
+def stored(label, dossier, lent_plan, room):
+    """A vector as the program vectors reads it."""
+    return sized(label.encode("ascii")) + sized(dossier) + sized(lent_plan) + struct.pack(">I", room)
+
+
 def vector_files():
     vectors = [vector for section in VECTORS for vector in section()]
-    labels = [label for label, *_ in vectors]
+    labels = [vector.label for vector in vectors]
     require(len(labels) == len(set(labels)), f"twice: {[label for label in labels if labels.count(label) > 1]}")
     require(max(map(len, labels)) <= 100, "a label has more than 100 bytes")
-    data = b"".join(sized(label.encode("ascii")) + sized(dossier) + struct.pack(">I", room) for label, _, dossier, room, _ in vectors)
+    data = b"".join(stored(label, dossier, lent_plan, room) for label, _, dossier, lent_plan, room, _ in vectors)
     return data, "".join(line(*vector) for vector in vectors).encode()
 
 
@@ -795,13 +1212,13 @@ def call_files():
     data = b"".join(call for _, call in calls)
     text = trace(data)
     answers = [int(answer.split()[1]) for answer in text.splitlines()]
-    for k, (number, _) in enumerate(calls):
+    for k, number in enumerate(number for number, _ in calls if number is not None):
         require(k < len(answers) and answers[k] == number, f"call {k} is answered {answers[k:k + 1]} where {number} is due")
     return data + lent(b"Y", encode(base()))[:-1], text.encode()
 
 
-def stored_vectors(data, lines):
-    """The vectors that the program vectors reads, each with its line of those that it writes."""
+def stored_vectors(data, lines, plans=True):
+    """The vectors that the program vectors reads, each with its line of those that it writes; before version 2.2 it read no plans."""
     at = 0
 
     def length():
@@ -816,24 +1233,35 @@ def stored_vectors(data, lines):
         return data[at - n:at]
 
     for due in lines:
-        yield piece().decode("ascii"), piece(), length(), due
+        yield piece().decode("ascii"), piece(), piece() if plans else b"", length(), due
     require(at == len(data), "there is not a line for each vector")
 
 
+def try_call(call, slices, label, room, due):
+    """One vector: the line due, and after a refusal the buffer as it was."""
+    old = bytes([165] * (room + 8))
+    buffer = ctypes.create_string_buffer(old, len(old))
+    lent_slices = [part for data in slices for part in (data, len(data))]
+    number = call(*lent_slices, buffer, room)
+    words = struct.unpack_from(f">{room // 8}q", buffer.raw) if number == 0 else ()
+    require(" ".join(map(str, (label, number, *words))) == due,
+            f"{label}: {call.__name__} answers {number}, or other figures, where '{due[:80]}' is due")
+    require(buffer.raw[0 if number else room:] == old[0 if number else room:], f"{label}: {call.__name__} changed bytes that it should leave")
+
+
 def try_library(path, name):
-    """Each stored vector by a call in C: the line due, and after a refusal the buffer as it was."""
-    call, tried = getattr(ctypes.CDLL(path), name), 0
-    call.argtypes, call.restype = (ctypes.c_char_p, ctypes.c_size_t, ctypes.c_char_p, ctypes.c_size_t), ctypes.c_uint32
+    """Each stored vector by a call in C that takes a plan; those without one by kh_am004_reckon too, if the library has it."""
+    library, tried, without = ctypes.CDLL(path), 0, 0
+    call = reckoning_call(library, name, 3)
+    other = reckoning_call(library, "kh_am004_reckon", 2) if hasattr(library, "kh_am004_reckon") else None
     data, lines = (ROOT / "crates/vectors/stdin").read_bytes(), (ROOT / "crates/vectors/stdout").read_text().splitlines()
-    for label, dossier, room, due in stored_vectors(data, lines):
-        old = bytes([165] * (room + 8))
-        buffer = ctypes.create_string_buffer(old, len(old))
-        number = call(dossier, len(dossier), buffer, room)
-        words = struct.unpack_from(f">{room // 8}q", buffer.raw) if number == 0 else ()
-        require(" ".join(map(str, (label, number, *words))) == due, f"{label}: {name} of {path} answers {number}, or other figures, where '{due[:80]}' is due")
-        require(buffer.raw[0 if number else room:] == old[0 if number else room:], f"{label}: {name} of {path} changed bytes that it should leave")
+    for label, dossier, lent_plan, room, due in stored_vectors(data, lines):
+        try_call(call, (dossier, lent_plan), label, room, due)
         tried += 1
-    print(f"{name} of {path} answers each of the {tried} stored vectors as is due")
+        if other and not lent_plan:
+            try_call(other, (dossier,), label, room, due)
+            without += 1
+    print(f"{name} of {path} answers each of the {tried} stored vectors as is due" + f", kh_am004_reckon the {without} without a plan" * bool(other))
 
 
 def main():

@@ -1,3 +1,4 @@
 pub mod RecordLaws
 pub mod MarkLaws
 pub mod RunLaws
+pub mod PartLaws

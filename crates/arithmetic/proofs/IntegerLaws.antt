@@ -109,3 +109,11 @@ mag-minus a (pos zero) = go a
 mag-minus a (pos (suc b)) = omega (arith, mag-plus a (negsuc b))
 mag-minus (pos a) (negsuc b) = omega arith
 mag-minus (negsuc a) (negsuc b) = omega (arith, sub-mag (suc b) a)
+
+pub mag-times : (n : ℕ) (a : ℤ) → mag (pos n *ℤ a) ≤ n * mag a + n
+mag-times n (pos a) = omega arith
+mag-times n (negsuc a) = omega (arith, minus-mag (n * suc a))
+  where
+    minus-mag : (k : ℕ) → mag (negℤ (pos k)) ≤ k
+    minus-mag zero = omega arith
+    minus-mag (suc k) = omega arith

@@ -1,13 +1,14 @@
 -- Readers at a place of the bytes, in the terms of the code that reads there.
 -- Assumes nothing.
-use Prim.Native.Nat.{ℕ, _+_, _*_}
+use Prim.Native.Nat.{ℕ, _+_, _*_, _-_}
 use mathlib.Core.Path.{_≡_, refl}
 use mathlib.Core.Bool.{Bool, true, false, cond}
 use mathlib.Core.List.{List}
 use native.Mathlib.Nat.{add-assoc}
+use native.Mathlib.Omega.{arith}
 use lib.Dec.{eqb}
-use lib.ListN.{drop}
-use lib.Seq.{drop-drop}
+use lib.ListN.{length, take, drop, length-drop}
+use lib.Seq.{drop-drop, take-all}
 use borrow.Author.Tests.{eq-eqb, ne-eqb}
 use Rattle.wire.specs.Bytes.{numbers, fieldAt}
 use Rattle.dossier.specs.Reader.{Judged, refused, accepted, Reader, after, _>>=_, _>>_, give, begin, field, fields, outside, within, equal}
@@ -61,6 +62,10 @@ unfolding give
 give-is a s = refl
 
 pub ruleset reading = (field-is, fields-is, within-is, equal-is, give-is, add-assoc)
+
+-- ---- the part of the bytes from a place on
+pub rest-is : (s : List ℕ) (at : ℕ) → take (length s - at) (drop at s) ≡ drop at s
+rest-is s at = take-all (length s - at) (drop at s) (omega (arith, length-drop at s))
 
 -- ---- an answer that was told: what the judgement is by it, and what holds of it
 pub told : {X A : Type 0} (says : X → Judged A) (holds : X → Type 0) {r x : X} {j : Judged A} → r ≡ x → (says r ≡ j) × holds r → (says x ≡ j) × holds x

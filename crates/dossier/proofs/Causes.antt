@@ -3,11 +3,13 @@
 use Prim.Native.Nat.{ℕ}
 use mathlib.Core.Path.{_≡_, refl}
 use mathlib.Core.Bool.{Bool, true, false, cond}
+use mathlib.Core.Option.{Option}
 use mathlib.Core.List.{List}
 use lib.Dec.{ltb, eqb}
 use lib.ListN.{length, take, drop}
 use Rattle.wire.specs.Bytes.{number}
 use Rattle.dossier.specs.Causes.{bytesMissing, markNotDue, openingCauses, yearCauses, _∈_}
+use Rattle.dossier.specs.Plan.{Plan}
 use Rattle.dossier.specs.Records.{Due}
 use Rattle.dossier.specs.Reader.{Judged, refused, accepted, Reader, after, _>>=_, _>>_, give, refuse, mark, stands, upon, present, field, fields, nothing, endOfPiece}
 use Rattle.dossier.specs.Judging.{dossier, openingPiece, yearPiece}
@@ -115,9 +117,9 @@ module _ (allowed : List ℕ) (missing : bytesMissing ∈ allowed) (due : markNo
   unfolding yearPiece
   year-piece own due = piece (a-year (λ n. n ∈ allowed) AlwaysNumbered numbered own due)
 
-  whole : ((n : ℕ) → n ∈ openingCauses → n ∈ allowed) → ((n : ℕ) → n ∈ yearCauses → n ∈ allowed) → Numbered allowed dossier
+  whole : ((n : ℕ) → n ∈ openingCauses → n ∈ allowed) → ((n : ℕ) → n ∈ yearCauses → n ∈ allowed) → (plan : Option Plan) → Numbered allowed (dossier plan)
   unfolding dossier
-  whole own own′ =
+  whole own own′ plan =
       bind (openings (λ n. n ∈ allowed) AlwaysNumbered numbered own)
       (λ o. bind (some-years (λ n. n ∈ allowed) AlwaysNumbered numbered own′ _ _ _) (λ l. given _))
 
@@ -127,5 +129,5 @@ openingPiece-causes = opening-piece openingCauses (listed bytesMissing openingCa
 pub yearPiece-causes : (due : Due) → Numbered yearCauses (yearPiece due)
 yearPiece-causes = year-piece yearCauses (listed bytesMissing yearCauses tt) (listed markNotDue yearCauses tt) (λ n h. h)
 
-pub dossier-causes : Numbered dossierCauses dossier
+pub dossier-causes : (plan : Option Plan) → Numbered dossierCauses (dossier plan)
 dossier-causes = whole dossierCauses (listed bytesMissing dossierCauses tt) (listed markNotDue dossierCauses tt) opening-part year-part

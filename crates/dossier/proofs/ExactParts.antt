@@ -8,9 +8,9 @@ use mathlib.Core.List.{List, [], _++_, append-assoc, append-nil}
 use native.Mathlib.Omega.{arith}
 use Rattle.wire.specs.Bytes.{Bytes}
 use Rattle.dossier.specs.Records.{bytesIfAny}
-use Rattle.dossier.specs.Reader.{accepted, Reader, after, _>>=_, _>>_, give, ifAny, endOfPiece}
+use Rattle.dossier.specs.Reader.{accepted, Reader, after, _>>=_, _>>_, give, ifAny, holds, endOfPiece}
 use Rattle.wire.proofs.BytesLaws.{bytes-after}
-use Rattle.dossier.proofs.ReaderLaws.{step, was}
+use Rattle.dossier.proofs.ReaderLaws.{step, was, cond-accepted}
 use Rattle.dossier.proofs.Refusals.{piece-ends, piece-ends-only}
 use Rattle.dossier.proofs.Exact.{Exact}
 
@@ -113,3 +113,27 @@ piece-exact {A} {r} {e} {P} x = record {
     moved b u s a t p q ut n m =
         let pa : P a u = rw m at p in
         ((rw ut at pa, sym ut ∙ n), q ∙ rw (m, ut))
+
+-- a test of what was read
+pub checked : {A : Type 0} {r : Reader A} {e : A → List ℕ} {P : A → List ℕ → Type 0} (c : ℕ) (test : A → Bool) → Exact 0 Any r e P
+    → Exact 0 Any (r >>= λ a. holds c (test a) >> give a) e (λ a t. P a t × (test a ≡ true))
+unfolding _>>_ _>>=_ give holds
+checked {A} {r} {e} {P} c test x = record {
+  reads = λ a t z p. rw (x .reads a t tt (p .0), p .1);
+  only = λ s bs h a t q.
+      let f = step (r s) (λ a. holds c (test a) >> give a) q in
+      let g = x .only s bs h (f .0) (f .1) (f .2) in
+      let k = step (holds c (test (f .0)) (f .1)) (λ _. give (f .0)) (f .3) in
+      let l = cond-accepted (test (f .0)) c _ (k .2) in
+      let m : f .0 ≡ a = was (k .3) .0 in
+      let u : f .1 ≡ t = was (l .1) .1 ∙ was (k .3) .1 in
+      (tt, (rw (m, u) at (g .1), rw m at (l .0)), g .2 ∙ rw (m, u));
+}
+
+-- the same range, said otherwise
+pub restated : {B : Type 0} {C : B → Type 0} {P Q : B → List ℕ → Type 0} {n : ℕ} {r : Reader B} {e : B → List ℕ} → ((b : B) (t : List ℕ) → P b t → Q b t)
+    → ((b : B) (t : List ℕ) → Q b t → P b t) → Exact n C r e P → Exact n C r e Q
+restated to from x = record {
+  reads = λ b t c q. x .reads b t c (from b t q);
+  only = λ s bs h b t q. let w = x .only s bs h b t q in (w .0, to b t (w .1), w .2);
+}

@@ -2,20 +2,29 @@
 -- Assumes nothing.
 use Prim.Native.Nat.{ℕ}
 use mathlib.Core.Path.{_≡_, refl}
+use mathlib.Core.Bool.{true, false}
 use mathlib.Core.List.{List, [], _∷_, _++_, map}
+use lib.IntN.{pos}
 use lib.ListN.{take, set, replicate}
 use Rattle.arithmetic.specs.Sum.{sum, listed}
+use Rattle.arithmetic.specs.Rounding.{ceilDiv}
 use Rattle.classes.specs.Classes.{NF, carbonStocks, deforestationProbabilities}
 use Rattle.classes.specs.Matrix.{optionOne, optionOneMatrix}
 use Rattle.activity.specs.declared.Activity.{Activity}
 use Rattle.activity.specs.declared.Activity.the-variants.{Fuel, Vehicles, Nitrogen, Lime}
+use Rattle.activity.specs.Activity.{numerator, denominator, activityGrams}
+use Rattle.figures.specs.declared.Figures.{Figures}
+use Rattle.figures.specs.Figures.{displacedEmissions, reductionOf, creditedOf, figuresOf, smallActivity}
 use Rattle.wire.specs.Bytes.{number, bytes, numbers, bytesOfEach, joined, total}
-use Rattle.dossier.specs.Marks.{HD}
+use Rattle.dossier.specs.Marks.{HD, PL}
 use Rattle.dossier.specs.Layouts.{activityBytes}
+use Rattle.dossier.specs.Plan.{planYearBytes, planBytes}
 use Rattle.dossier.specs.Records.{stocksBytes, matrixBytes}
 use Rattle.dossier.specs.Claims.{numberOf}
-use Rattle.dossier.specs.Reader.{_>>=_, _>>_, give, mark, present, begin, field, fields, outside, within, equal}
-use Rattle.dossier.specs.JudgingRecords.{head, each, stocks, matrix, inRange, fieldsOf, activityUnder, activity}
+use Rattle.dossier.specs.Reader.{_>>=_, _>>_, give, refuse, mark, stands, upon, ifAny, present, begin, field, fields, outside, within, equal, nothing}
+use Rattle.dossier.specs.JudgingRecords.{head, each, stocks, matrix, inRange, fieldsOf, activityMark, activityUnder, activity}
+use Rattle.dossier.specs.Judging.{run, activities}
+use Rattle.dossier.specs.JudgingPlan.{planYear, planEnd, planYears, plan, lentPlan}
 
 -- HD with its three fields
 abbrev headOf : ℕ → ℕ → ℕ → List ℕ
@@ -63,3 +72,26 @@ limits-hold : (map (λ (l : Activity × Activity). numberFrom (l .0)) limits ≡
     × (map (λ (l : Activity × Activity). numberFrom (l .1)) limits ≡ map (λ (l : Activity × Activity). 8) limits)
 unfolding number bytes total activityBytes _>>=_ _>>_ give present field outside within inRange fieldsOf activityUnder activity
 limits-hold = (refl, refl)
+
+-- a plan (#103): none, EN alone, rising years, and the first year and the last that 16 bits say; 12 for equal or falling years, EN missing or cut, a byte
+-- after it, a mark that is not due
+abbrev plan-of : List ℕ → List ℕ
+plan-of ys = planBytes (map (λ (y : ℕ). record { year = y; activities = Lime 1 1 ∷ [] }) ys)
+
+abbrev numberAs : List ℕ → ℕ
+numberAs s = numberOf (lentPlan s)
+
+plans : (numberAs [] ≡ 0) × (numberAs (plan-of []) ≡ 0) × (numberAs (plan-of (2020 ∷ 2021 ∷ [])) ≡ 0) × (numberAs (plan-of (0 ∷ 65_535 ∷ [])) ≡ 0)
+    × (numberAs (plan-of (2020 ∷ 2020 ∷ [])) ≡ 12) × (numberAs (plan-of (2021 ∷ 2020 ∷ [])) ≡ 12) × (numberAs (take 15 (plan-of (2020 ∷ []))) ≡ 12)
+    × (numberAs (take 16 (plan-of (2020 ∷ []))) ≡ 12) × (numberAs (plan-of [] ++ (0 ∷ [])) ≡ 12) × (numberAs (bytes 2 PL ++ plan-of []) ≡ 12)
+unfolding number bytes joined total _>>=_ _>>_ give refuse mark stands upon ifAny present begin field outside within nothing inRange fieldsOf activityMark activityUnder activity
+    activityBytes planYearBytes planBytes run activities planYear planEnd planYears plan lentPlan
+plans = (refl, refl, refl, refl, refl, refl, refl, refl, refl, refl)
+
+-- project 1,908,170 with planned limestone: 228,247 g are small enough, 228,248 g are not, for both sides are 2,008,600 then
+abbrev with-limestone : ℕ → Figures
+with-limestone grams = figuresOf (pos 0) (pos 1_908_170) (pos (activityGrams (Lime 1 grams))) (pos 0) (pos 0)
+
+small-edge : (smallActivity (with-limestone 228_247) ≡ true) × (smallActivity (with-limestone 228_248) ≡ false) × (smallActivity (figuresOf (pos 0) (pos 0) (pos 0) (pos 0) (pos 0)) ≡ false)
+unfolding ceilDiv numerator denominator activityGrams displacedEmissions reductionOf creditedOf figuresOf smallActivity
+small-edge = (refl, refl, refl)

@@ -2,6 +2,7 @@
 -- Assumes nothing.
 use Prim.Native.Nat.{ℕ, zero, suc, _+_, _*_, _≤_}
 use mathlib.Core.Path.{_≡_, refl, sym}
+use mathlib.Core.Bool.{Bool, true, false}
 use mathlib.Core.Option.{Option, none, some}
 use mathlib.Core.List.{List, [], _∷_, map}
 use native.Mathlib.Omega.{arith}
@@ -20,6 +21,7 @@ use Rattle.figures.specs.Year.{Year}
 use Rattle.figures.specs.Reckoning.{afterFigures, afterYear}
 use Rattle.wire.specs.Bytes.{Bytes, bytes, bytesOfEach, joined, total}
 use Rattle.dossier.specs.Layouts.{activityBytes}
+use Rattle.dossier.specs.Plan.{Plan, PlanLent}
 use Rattle.dossier.specs.Records.{
   headBytes,
   stocksBytes,
@@ -34,9 +36,11 @@ use Rattle.dossier.specs.Records.{
   termsOf,
   stateOf,
   Due,
-  settled,
+  firstDue,
   next,
   conversionsBytes,
+  RecordsInRange,
+  recordsBytes,
   YearInRange,
   yearBytes,
   YearsInRange,
@@ -53,15 +57,20 @@ use Rattle.dossier.proofs.WellFormed.{dossier-accepted}
 
 ruleset lengths = (length-append, length-bytes, length-each)
 
-run-length : (l : List Activity) → length (joined (map activityBytes l)) ≤ length l * longestRecord
+pub run-length : (l : List Activity) → length (joined (map activityBytes l)) ≤ length l * longestRecord
 unfolding joined
 run-length [] = omega arith
 run-length (a ∷ l) = let h = activity-length a in let k = run-length l in simp length-append (omega arith)
 
+records-length : (fromPlan : Option (List Activity)) (planned : Bool) (l : List Activity) → RecordsInRange fromPlan planned l → length (recordsBytes planned l) ≤ 60 * longestRecord
+unfolding recordsBytes
+records-length fromPlan false l p = let h = run-length l in omega arith
+records-length fromPlan true l p = simp length-bytes (omega arith)
+
 year-length : (due : Due) (y : Year) → YearInRange due y → length (yearBytes y) ≤ 3214
 unfolding yearBytes conversionsBytes joined
 year-length due y p =
-    let r = run-length (y .activities) in
+    let r = records-length _ (y .planned) (y .activities) (p .records) in
     let a = p .conversions .count in
     let b = p .beltConversions .count in
     simp lengths (omega arith)
@@ -93,18 +102,18 @@ opening-length o p =
     let b = p .beltAreas .twelve in
     simp lengths (omega arith)
 
-dossier-length : (d : Dossier) → DossierInRange d → length (dossierBytes d) ≤ 65088
+dossier-length : (plan : Option Plan) (d : Dossier) → DossierInRange plan d → length (dossierBytes d) ≤ 65088
 unfolding dossierBytes joined
-dossier-length d p =
+dossier-length plan d p =
     let o = opening-length (d .opening) (p .opening) in
     let y = years-length _ (d .years) (p .years) in
     let c = p .count in
     let n = p .opening .head .count in
     simp (length-append, length-bytes) (omega arith)
 
--- of accepted bytes
-pub longest : (s : List ℕ) → Bytes s → (d : Dossier) (rest : List ℕ) → dossier s ≡ accepted d rest → length s ≤ 65088
-longest s bs d rest q = let w = dossier-accepted .sound s bs d rest q in rw (w .1) (dossier-length d (w .0))
+-- of accepted bytes, whatever the plan
+pub longest : (plan : Option Plan) → PlanLent plan → (s : List ℕ) → Bytes s → (d : Dossier) (rest : List ℕ) → dossier plan s ≡ accepted d rest → length s ≤ 65088
+longest plan lent s bs d rest q = let w = dossier-accepted plan lent .sound s bs d rest q in rw (w .1) (dossier-length plan d (w .0))
 
 -- ---- and one of that length is accepted: ST, Option 2, 20 years, each with 60 records of VE
 abbrev longestYear : ℕ → Year
@@ -113,6 +122,7 @@ longestYear y = record {
   operatingDays = 1;
   conversions = 1 ∷ replicate 143 0;
   beltConversions = replicate 144 0;
+  planned = false;
   activities = replicate 60 (Vehicles 1 0 0 0);
 }
 
@@ -132,7 +142,7 @@ longestDossier = record {
   years = longestYears 20 2000;
 }
 
-all-alike : (n : ℕ) → ActivitiesInRange (replicate n (Vehicles 1 0 0 0))
+pub all-alike : (n : ℕ) → ActivitiesInRange (replicate n (Vehicles 1 0 0 0))
 all-alike zero = tt
 all-alike (suc n) = (omega arith, all-alike n)
 
@@ -147,14 +157,15 @@ longest-years (suc k) due l p b = (
     days = omega (arith, days-range (due .state .year));
     conversions = record { count = refl; totals = sym p };
     beltConversions = record { count = refl; totals = sym b };
-    count = lit≤ tt;
-    activities = all-alike 60;
+    records = (lit≤ tt, all-alike 60);
+    small = λ e. let z : _≡_ {A = ℕ} 0 1 = cc in absurd (omega arith);
   },
   longest-years k (next (longestYear (due .state .year)) due) (omega arith) p b,
 )
 
-pub longest-accepted : (dossier (dossierBytes longestDossier) ≡ accepted longestDossier []) × (length (dossierBytes longestDossier) ≡ 65088)
-longest-accepted = (dossier-accepted .complete longestDossier in-range, size)
+pub longest-accepted : (plan : Option Plan) → PlanLent plan
+    → (dossier plan (dossierBytes longestDossier) ≡ accepted longestDossier []) × (length (dossierBytes longestDossier) ≡ 65088)
+longest-accepted plan lent = (dossier-accepted plan lent .complete longestDossier in-range, size)
   where
     opened : OpeningInRange (longestDossier .opening)
     opened = unfold total listed carbonStocks optionOneMatrix in record {
@@ -165,10 +176,12 @@ longest-accepted = (dossier-accepted .complete longestDossier in-range, size)
       matrix = (refl, record { count = refl; rows = option-one-rows });
     }
 
-    in-range : DossierInRange longestDossier
-    in-range = unfold settled termsOf stateOf total in record { opening = opened; count = refl; years = longest-years 20 (settled (longestDossier .opening)) refl refl refl }
+    in-range : DossierInRange plan longestDossier
+    in-range =
+        unfold firstDue termsOf stateOf total in
+        record { opening = opened; count = refl; years = longest-years 20 (firstDue plan (longestDossier .opening)) refl refl refl }
 
     size : length (dossierBytes longestDossier) ≡ 65088
     size =
         unfold listed carbonStocks deforestationProbabilities optionOne optionOneMatrix bytes bytesOfEach joined in
-        unfold headBytes stocksBytes areasBytes matrixBytes bytesIfAny openingBytes conversionsBytes activityBytes yearBytes dossierBytes in refl
+        unfold headBytes stocksBytes areasBytes matrixBytes bytesIfAny openingBytes conversionsBytes recordsBytes activityBytes yearBytes dossierBytes in refl

@@ -10,7 +10,7 @@ use lib.Dec.{ltb, eqb}
 use lib.ListN.{length, take, drop, length-append}
 use Rattle.activity.specs.Activity.{Within}
 use Rattle.wire.specs.Bytes.{Bytes, number, bytes}
-use Rattle.dossier.specs.Reader.{Judged, refused, accepted, Reader, after, _>>=_, _>>_, give, mark, begin, stands, present, outside, within, equal, nothing}
+use Rattle.dossier.specs.Reader.{Judged, refused, accepted, Reader, after, _>>=_, _>>_, give, mark, begin, stands, is, present, outside, within, equal, nothing}
 use Rattle.wire.proofs.BytesLaws.{length-bytes, split, take-bytes, drop-bytes}
 
 -- no refusal is an acceptance, and no acceptance a refusal
@@ -168,6 +168,15 @@ stands-here kind s h = simp (le-ltb _ _ h)
 
 pub stands-bytes : (kind : ℕ → Bool) (m : ℕ) (t : List ℕ) → m < 65536 → stands kind (bytes 2 m ++ t) ≡ kind m
 stands-bytes kind m t h = stands-here kind (bytes 2 m ++ t) (simp (length-append, length-bytes) (omega arith)) ∙ ap kind (take-bytes 2 m t h)
+
+-- where the mark m stands
+pub stood : (m : ℕ) (s : List ℕ) → stands (is m) s ≡ true → (2 ≤ length s) × (number (take 2 s) ≡ m)
+unfolding stands
+stood m s h = go (ltb (length s) 2) (ltb-false _ _) h
+  where
+    go : (b : Bool) → (b ≡ false → 2 ≤ length s) → cond b false (eqb (number (take 2 s)) m) ≡ true → (2 ≤ length s) × (number (take 2 s) ≡ m)
+    go true f e = let z : _≡_ {A = ℕ} 0 1 = cc in absurd (omega arith)
+    go false f e = (f refl, eqb-true _ _ e)
 
 pub nothing-only : (s : List ℕ) {x : Unit {0}} {t : List ℕ} → nothing s ≡ accepted x t → (s ≡ []) × (t ≡ [])
 unfolding nothing

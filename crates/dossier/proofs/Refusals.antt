@@ -12,11 +12,13 @@ use Rattle.activity.specs.declared.Activity.{Activity}
 use Rattle.wire.specs.Bytes.{number, bytes}
 use Rattle.wire.proofs.BytesLaws.{length-bytes, take-bytes}
 use Rattle.dossier.specs.Marks.{YR, EN}
+use Rattle.figures.specs.Year.{Year}
+use Rattle.dossier.specs.Plan.{recordsFor}
 use Rattle.dossier.specs.Records.{Due}
-use Rattle.dossier.specs.Reader.{refused, accepted, after, _>>_, refuse, mark, stands, is, upon, present, begin, nothing, endOfPiece}
+use Rattle.dossier.specs.Reader.{refused, accepted, Reader, after, _>>_, refuse, mark, stands, is, upon, present, begin, nothing, endOfPiece}
 use Rattle.dossier.specs.JudgingRecords.{activityMark}
 use Rattle.dossier.specs.Judging.{run, activities, noneLeft, yearRecords, yearLeft, year, end}
-use Rattle.dossier.proofs.ReaderLaws.{no, was, mark-yes, stands-short, stands-here}
+use Rattle.dossier.proofs.ReaderLaws.{no, was, bind-no, mark-yes, stands-short, stands-here}
 
 -- "mark, .., bytes missing": 1 where the mark is cut, 2 where it is another, however few bytes follow, 1 where the record is cut
 module _ (m n : ℕ) (s : List ℕ) where
@@ -57,24 +59,32 @@ pub none-left : {A : Type 0} (t : List ℕ) → noneLeft {A = A} (bytes 2 YR ++ 
 unfolding noneLeft begin present _>>_
 none-left t = rw (mark-yes YR t (lit< tt)) (cut-or _ (ltb (length t) 4) t)
 
+-- a refusal of the records of the year that is due is the year's
+abbrev pub leftFor : Due → Reader Year
+leftFor due = yearLeft (recordsFor (due .plan) (due .state .year)) (due .state .year) (due .state .left) (due .terms .start .0) (due .terms .beltstart .0)
+
+pub left-refused : (due : Due) (s : List ℕ) (n : ℕ) → leftFor due s ≡ refused n → year due s ≡ refused n
+unfolding year
+left-refused due s n e = sym (bind-no (leftFor due) _ s n (sym e))
+
 pub year-none-left : (due : Due) (t : List ℕ) → due .state .left ≡ 0 → year due (bytes 2 YR ++ t) ≡ refused (cond (ltb (length t) 4) 1 6)
-unfolding year yearLeft
-year-none-left due t h = rw (eq-eqb _ _ h) (none-left t)
+unfolding yearLeft
+year-none-left due t h = left-refused due _ _ (rw (eq-eqb _ _ h) (none-left t))
 
 -- where a year is due: 1 where the bytes end before or inside its mark, 2 for any other mark, so for EN "before n years"
 pub year-short : (due : Due) (s : List ℕ) → length s < 2 → year due s ≡ refused 1
-unfolding year yearLeft yearRecords noneLeft _>>_
-year-short due s h = go (eqb (due .state .left) 0)
+unfolding yearLeft yearRecords noneLeft _>>_
+year-short due s h = left-refused due s 1 (go (eqb (due .state .left) 0))
   where
-    go : (b : Bool) → cond b noneLeft (yearRecords (due .state .year) (due .terms .start .0) (due .terms .beltstart .0)) s ≡ refused 1
+    go : (b : Bool) → cond b noneLeft (yearRecords (recordsFor (due .plan) (due .state .year)) (due .state .year) (due .terms .start .0) (due .terms .beltstart .0)) s ≡ refused 1
     go true = rw (begin-short YR 4 s h)
     go false = rw (begin-short YR 4 s h)
 
 pub year-other : (due : Due) (s : List ℕ) → 2 ≤ length s → (number (take 2 s) ≡ YR → ⊥) → year due s ≡ refused 2
-unfolding year yearLeft yearRecords noneLeft _>>_
-year-other due s h f = go (eqb (due .state .left) 0)
+unfolding yearLeft yearRecords noneLeft _>>_
+year-other due s h f = left-refused due s 2 (go (eqb (due .state .left) 0))
   where
-    go : (b : Bool) → cond b noneLeft (yearRecords (due .state .year) (due .terms .start .0) (due .terms .beltstart .0)) s ≡ refused 2
+    go : (b : Bool) → cond b noneLeft (yearRecords (recordsFor (due .plan) (due .state .year)) (due .state .year) (due .terms .start .0) (due .terms .beltstart .0)) s ≡ refused 2
     go true = rw (begin-other YR 4 s h f)
     go false = rw (begin-other YR 4 s h f)
 

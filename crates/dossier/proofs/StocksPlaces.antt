@@ -16,6 +16,7 @@ use Rattle.classes.specs.Classes.{classes, NF, greatestStock}
 use Rattle.wire.specs.Bytes.{bytes, numbers, bytesOfEach}
 use Rattle.wire.proofs.BytesLaws.{Below, length-bytes, length-each, take-bytes, drop-bytes, numbers-each}
 use Rattle.dossier.specs.Marks.{ST, PA, DA}
+use Rattle.dossier.specs.Plan.{Plan}
 use Rattle.dossier.specs.Records.{Head, HeadInRange, headBytes, StocksInRange, stocksBytes, AreasInRange, areasBytes, bytesIfAny}
 use Rattle.dossier.specs.Reader.{refused, accepted, Reader, after, _>>=_, _>>_, give, begin, fields, is, ifAny, within, equal}
 use Rattle.dossier.specs.JudgingRecords.{each, stocks, stocksIfAny, areas}
@@ -27,9 +28,9 @@ use Rattle.dossier.proofs.RecordLaws.{head-exact, areas-exact}
 use Rattle.dossier.proofs.OpeningLaws.{stocks-if-any-exact, stocks-begin, areas-begin}
 
 -- an opening's refusal is that of the dossier and of the piece
-pub opening-fault : (s : List ℕ) (n : ℕ) → opening s ≡ refused n → (dossier s ≡ refused n) × (openingPiece s ≡ refused n)
+pub opening-fault : (plan : Option Plan) (s : List ℕ) (n : ℕ) → opening s ≡ refused n → (dossier plan s ≡ refused n) × (openingPiece s ≡ refused n)
 unfolding dossier openingPiece
-opening-fault s n e = (sym (bind-no opening _ s n (sym e)), sym (bind-no opening _ s n (sym e)))
+opening-fault plan s n e = (sym (bind-no opening _ s n (sym e)), sym (bind-no opening _ s n (sym e)))
 
 -- another mark than the one that is due
 mark-other : (m x n : ℕ) (t : List ℕ) → x < 65536 → (x ≡ m → ⊥) → begin m n (bytes 2 x ++ t) ≡ refused 2

@@ -3,7 +3,7 @@
 use Prim.Native.Nat.{ℕ, zero, suc, _+_, _*_, _-_, _≤_}
 use mathlib.Core.Path.{_≡_}
 use mathlib.Core.Bool.{Bool, true, false, cond}
-use mathlib.Core.Option.{none}
+use mathlib.Core.Option.{Option, none, some}
 use mathlib.Core.List.{List, [], _∷_, _++_}
 use native.Mathlib.Omega.{arith}
 use lib.Dec.{T, eqb}
@@ -21,16 +21,17 @@ use Rattle.dossier.specs.Causes.{
   conversionTotalWrong,
   activityOutOfRange,
   tooManyActivities,
+  plannedYearWrong,
   openingCauses,
   yearCauses,
   _∈_,
 }
-use Rattle.dossier.specs.Marks.{ST, YR, EN}
+use Rattle.dossier.specs.Marks.{ST, YR, PL, EN}
 use Rattle.dossier.specs.Layouts.{Made, Layout, layouts}
 use Rattle.dossier.specs.Records.{Due, next}
-use Rattle.dossier.specs.Reader.{Reader, _>>=_, _>>_, give, refuse, mark, is, upon, ifAny, present, begin, field, fields, outside, within, equal, nothing}
+use Rattle.dossier.specs.Reader.{Reader, _>>=_, _>>_, give, refuse, mark, is, upon, ifAny, present, begin, field, fields, outside, within, equal, holds, nothing}
 use Rattle.dossier.specs.JudgingRecords.{head, each, stocks, stocksIfAny, areas, matrix, matrixUnder, conversions, inRange, madeFrom, fieldsOf, rowUnder, activityMark, activityUnder, activity}
-use Rattle.dossier.specs.Judging.{opening, run, activities, noneLeft, yearRecords, yearLeft, year, end, years}
+use Rattle.dossier.specs.Judging.{opening, run, activities, fromThePlan, taken, noneLeft, yearRecords, yearLeft, allowed, year, end, years}
 use Rattle.dossier.proofs.ReaderLaws.{bind-bind}
 use Rattle.dossier.proofs.CauseLaws.{member, listed}
 use Rattle.dossier.proofs.LayoutLaws.{longestRecord}
@@ -163,12 +164,27 @@ module _ (Allowed : ℕ → Type 0) (P : (A : Type 0) → ℕ → Reader A → T
     unfolding conversions
     some-conversions m settledTotal = a-record _ (c .bind (c .fields 144 8) (λ xs. seq (equals conversionTotalWrong _ _ (of-year tt)) (c .give _)))
 
-    pub a-year : (due : Due) → P _ 3216 (year due)
-    unfolding year yearLeft yearRecords activities
-    a-year due =
-        one-of (eqb (due .state .left) 0) (c .more none-lefts (omega arith))
+    from-the-plan : (fromPlan : Option (List Activity)) → P _ 0 (fromThePlan fromPlan)
+    unfolding fromThePlan
+    from-the-plan none = c .refuse plannedYearWrong (of-year tt)
+    from-the-plan (some records) = c .give _
+
+    -- own records, or PL
+    records-taken : (fromPlan : Option (List Activity)) → P _ 902 (taken fromPlan)
+    unfolding taken activities
+    records-taken fromPlan =
+        c .choice (is PL) (c .more (seq (c .mark PL) (from-the-plan fromPlan)) (omega arith)) (c .bind (runs 60 []) (λ l. c .give _)) (omega arith)
+
+    years-records : (fromPlan : Option (List Activity)) (dueYear left start beltstart : ℕ) → P _ 3216 (yearLeft fromPlan dueYear left start beltstart)
+    unfolding yearLeft yearRecords
+    years-records fromPlan dueYear left start beltstart =
+        one-of (eqb left 0) (c .more none-lefts (omega arith))
         (begins _ (c .bind (c .field 2) (λ y. c .bind (c .field 2) (λ d. seq (equals yearWrong _ _ (of-year tt)) (seq (withins yearWrong _ _ _ (of-year tt))
-        (c .bind (some-conversions _ _) (λ p. c .bind (some-conversions _ _) (λ b. c .bind (runs 60 []) (λ l. c .give _)))))))) (omega arith))
+        (c .bind (some-conversions _ _) (λ p. c .bind (some-conversions _ _) (λ b. c .bind (records-taken fromPlan) (λ l. c .give _)))))))) (omega arith))
+
+    pub a-year : (due : Due) → P _ 3216 (year due)
+    unfolding year holds give refuse
+    a-year due = c .bind (years-records _ _ _ _ _) (λ y. seq (tested (allowed due y) (c .give tt) (c .refuse plannedYearWrong (of-year tt))) (c .give y))
 
     -- k years; then EN and a byte after it, or YR with its fields
     pub some-years : (k : ℕ) (due : Due) (before : List Year) → P _ (k * 3216 + 6) (years k due before)

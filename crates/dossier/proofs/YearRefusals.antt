@@ -17,7 +17,7 @@ use Rattle.dossier.specs.JudgingRecords.{conversions}
 use Rattle.dossier.specs.Judging.{yearRecords, yearLeft, year}
 use Rattle.wire.proofs.BytesLaws.{length-bytes, take-bytes, drop-bytes}
 use Rattle.dossier.proofs.ReaderLaws.{begin-yes, within-yes, within-above, equal-yes}
-use Rattle.dossier.proofs.Refusals.{begin-short, begin-other}
+use Rattle.dossier.proofs.Refusals.{begin-short, begin-other, left-refused}
 
 abbrev pub yearRecord : ℕ → ℕ → List ℕ → List ℕ
 yearRecord y days t = joined (bytes 2 YR ∷ bytes 2 y ∷ bytes 2 days ∷ t ∷ [])
@@ -35,18 +35,18 @@ module _ (due : Due) (y days : ℕ) (t : List ℕ) (left : 1 ≤ due .state .lef
 
   -- "year not the next"
   pub year-wrong : (y ≡ due .state .year → ⊥) → year due (yearRecord y days t) ≡ refused 6
-  unfolding year yearLeft yearRecords _>>_ equal
-  year-wrong h = rw (ne-eqb _ _ left-some) (year-fields _ y days t hy hd ∙ simp (ne-eqb _ _ h))
+  unfolding yearLeft yearRecords _>>_ equal
+  year-wrong h = left-refused due _ 6 (rw (ne-eqb _ _ left-some) (year-fields _ y days t hy hd ∙ simp (ne-eqb _ _ h)))
 
   -- "or d wrong": beyond the days of that Gregorian year, as 366 in 2100
   pub days-wrong : y ≡ due .state .year → daysInYear y < days → year due (yearRecord y days t) ≡ refused 6
-  unfolding year yearLeft yearRecords _>>_
+  unfolding yearLeft yearRecords _>>_
   days-wrong e h =
-      rw (ne-eqb _ _ left-some) (year-fields _ y days t hy hd ∙ rw (equal-yes _ _ _ t e, within-above _ _ _ _ t h))
+      left-refused due _ 6 (rw (ne-eqb _ _ left-some) (year-fields _ y days t hy hd ∙ rw (equal-yes _ _ _ t e, within-above _ _ _ _ t h)))
 
   year-begun : (n : ℕ) → y ≡ due .state .year → Within 1 days (daysInYear y) → begin CP 1152 t ≡ refused n → year due (yearRecord y days t) ≡ refused n
-  unfolding year yearLeft yearRecords conversions _>>=_ _>>_
-  year-begun n e d f = rw (ne-eqb _ _ left-some) (year-fields _ y days t hy hd ∙ rw (equal-yes _ _ _ t e, within-yes _ _ _ _ t d, f))
+  unfolding yearLeft yearRecords conversions _>>=_ _>>_
+  year-begun n e d f = left-refused due _ n (rw (ne-eqb _ _ left-some) (year-fields _ y days t hy hd ∙ rw (equal-yes _ _ _ t e, within-yes _ _ _ _ t d, f)))
 
   -- "Last year's table taken where CP is missing: it is 2, or 1 where the bytes end there"
   pub no-table : y ≡ due .state .year → Within 1 days (daysInYear y) → 2 ≤ length t → (number (take 2 t) ≡ CP → ⊥) → year due (yearRecord y days t) ≡ refused 2

@@ -50,20 +50,29 @@ bufferTooShort = 10
 abbrev pub stockOutOfRange : ℕ
 stockOutOfRange = 11
 
+-- "12 for a plan not of this form" (#103)
+abbrev pub planNotOfForm : ℕ
+planNotOfForm = 12
+
+-- "13 right after PL, where the plan lacks the year or the inequality fails" (#103)
+abbrev pub plannedYearWrong : ℕ
+plannedYearWrong = 13
+
 -- the whole table
 abbrev pub causes : List ℕ
 causes =
     bytesMissing ∷ markNotDue ∷ headOutOfRange ∷ areaTotalWrong ∷ rowSumWrong ∷ yearWrong ∷ conversionTotalWrong ∷ activityOutOfRange ∷ tooManyActivities
-    ∷ bufferTooShort ∷ stockOutOfRange ∷ []
+    ∷ bufferTooShort ∷ stockOutOfRange ∷ planNotOfForm ∷ plannedYearWrong ∷ []
 
 -- ---- the causes for which each call may refuse
 -- HD, ST, PA, DA and MP
 abbrev pub openingCauses : List ℕ
 openingCauses = bytesMissing ∷ markNotDue ∷ headOutOfRange ∷ areaTotalWrong ∷ rowSumWrong ∷ stockOutOfRange ∷ []
 
--- YR, CP, CD and the activity records
+-- the plan; YR, CP, CD, and the activity records or PL
 abbrev pub yearCauses : List ℕ
-yearCauses = bytesMissing ∷ markNotDue ∷ yearWrong ∷ conversionTotalWrong ∷ activityOutOfRange ∷ tooManyActivities ∷ []
+yearCauses =
+    bytesMissing ∷ markNotDue ∷ yearWrong ∷ conversionTotalWrong ∷ activityOutOfRange ∷ tooManyActivities ∷ planNotOfForm ∷ plannedYearWrong ∷ []
 
 -- a closing: the buffer's alone
 abbrev pub closingCauses : List ℕ

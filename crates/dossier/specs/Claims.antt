@@ -5,6 +5,7 @@ use mathlib.Core.Path.{_≡_}
 use mathlib.Core.List.{List, []}
 use Rattle.wire.specs.Bytes.{Bytes}
 use Rattle.classes.specs.Classes.{greatestArea}
+use Rattle.dossier.specs.Plan.{PlanLent}
 use Rattle.dossier.specs.Records.{Due}
 use Rattle.dossier.specs.Reader.{Reader, Judged, refused, accepted}
 
@@ -13,11 +14,12 @@ pub record AcceptedExactly {A : Type 0} (judge : Reader A) (InRange : A → Type
   pub sound : (s : List ℕ) → Bytes s → (a : A) (rest : List ℕ) → judge s ≡ accepted a rest → InRange a × (s ≡ encoded a) × (rest ≡ [])
   pub complete : (a : A) → InRange a → judge (encoded a) ≡ accepted a []
 
--- what is due can be said in a year piece: the year in 16 bits, totals of PA and DA in range
+-- what is due can be said: in a year piece the year in 16 bits, totals of PA and DA in range; and in a plan
 pub record DueInRange (due : Due) : Type 0 where
   pub year : due .state .year < 65_536
   pub start : due .terms .start .0 ≤ greatestArea
   pub beltstart : due .terms .beltstart .0 ≤ greatestArea
+  pub plan : PlanLent (due .plan)
 
 -- the number of what was judged: 0 where nothing is refused
 abbrev pub numberOf : {A : Type 0} → Judged A → ℕ

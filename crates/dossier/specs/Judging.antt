@@ -2,17 +2,20 @@
 -- order; the first fault counts."
 -- To be believed. Assumes nothing.
 use Prim.Native.Nat.{ℕ, zero, suc, _+_, _-_}
-use mathlib.Core.Bool.{cond}
+use mathlib.Core.Bool.{Bool, true, false, cond}
+use mathlib.Core.Option.{Option, none, some}
 use mathlib.Core.List.{List, [], _∷_, _++_}
 use lib.Dec.{eqb}
 use lib.ListN.{length}
 use Rattle.classes.specs.Calendar.{daysInYear}
 use Rattle.activity.specs.declared.Activity.{Activity}
 use Rattle.figures.specs.Year.{Year}
-use Rattle.dossier.specs.Causes.{yearWrong, tooManyActivities}
-use Rattle.dossier.specs.Marks.{PA, DA, YR, CP, CD, EN}
-use Rattle.dossier.specs.Records.{Opening, Due, settled, next, Dossier}
-use Rattle.dossier.specs.Reader.{Reader, _>>=_, _>>_, give, refuse, mark, is, upon, begin, field, within, equal, nothing, endOfPiece}
+use Rattle.figures.specs.Figures.{smallActivity}
+use Rattle.dossier.specs.Causes.{yearWrong, tooManyActivities, plannedYearWrong}
+use Rattle.dossier.specs.Marks.{PA, DA, YR, CP, CD, PL, EN}
+use Rattle.dossier.specs.Plan.{Plan, recordsFor}
+use Rattle.dossier.specs.Records.{Opening, Due, firstDue, next, figuresFor, Dossier}
+use Rattle.dossier.specs.Reader.{Reader, _>>=_, _>>_, give, refuse, mark, is, upon, begin, field, within, equal, holds, nothing, endOfPiece}
 use Rattle.dossier.specs.JudgingRecords.{head, stocksIfAny, areas, matrixUnder, conversions, activityMark, activity}
 
 -- HD, ST if it is there, PA, DA, and MP under Option 2
@@ -35,6 +38,20 @@ run (suc more) before = upon activityMark (do a ← activity; run more (before +
 unfoldable pub activities : List Activity → Reader (List Activity)
 activities before = run (60 - length before) before
 
+-- what stands for a year's activity records, and the records that are taken
+pub record Taken : Type 0 where
+  pub planned : Bool
+  pub activities : List Activity
+
+-- #103, "13 right after PL, where the plan lacks the year": the records that it has for the year
+unfoldable pub fromThePlan : Option (List Activity) → Reader Taken
+fromThePlan none = refuse plannedYearWrong
+fromThePlan (some records) = give (record { planned = true; activities = records })
+
+-- "PL (no fields) may stand instead of the activity records"
+unfoldable pub taken : (fromPlan : Option (List Activity)) → Reader Taken
+taken fromPlan = upon (is PL) (do mark PL; fromThePlan fromPlan) (do records ← activities []; give (record { planned = false; activities = records }))
+
 -- "none left": YR complete gives 6, whatever follows it; YR cut gives 1
 unfoldable pub noneLeft : {A : Type 0} → Reader A
 noneLeft = do
@@ -42,8 +59,8 @@ noneLeft = do
   refuse yearWrong
 
 -- "year not the next, none left, or d wrong": 6; the records of the year that is due, for the totals of PA and DA
-unfoldable pub yearRecords : (dueYear start beltstart : ℕ) → Reader Year
-yearRecords dueYear start beltstart = do
+unfoldable pub yearRecords : (fromPlan : Option (List Activity)) (dueYear start beltstart : ℕ) → Reader Year
+yearRecords fromPlan dueYear start beltstart = do
   begin YR 4
   calendarYear ← field 2
   days ← field 2
@@ -51,16 +68,30 @@ yearRecords dueYear start beltstart = do
   within yearWrong 1 days (daysInYear calendarYear)
   project ← conversions CP start
   belt ← conversions CD beltstart
-  records ← activities []
-  give (record { year = calendarYear; operatingDays = days; conversions = project; beltConversions = belt; activities = records })
+  records ← taken fromPlan
+  give (record {
+    year = calendarYear;
+    operatingDays = days;
+    conversions = project;
+    beltConversions = belt;
+    planned = records .planned;
+    activities = records .activities;
+  })
 
 -- where one is left or none
-unfoldable pub yearLeft : (dueYear left start beltstart : ℕ) → Reader Year
-yearLeft dueYear left start beltstart = cond (eqb left 0) noneLeft (yearRecords dueYear start beltstart)
+unfoldable pub yearLeft : (fromPlan : Option (List Activity)) (dueYear left start beltstart : ℕ) → Reader Year
+yearLeft fromPlan dueYear left start beltstart = cond (eqb left 0) noneLeft (yearRecords fromPlan dueYear start beltstart)
 
--- a year, for what is due
+-- #103, "The year must satisfy 20 × activity < project + displaced + activity", where PL stands
+abbrev pub allowed : Due → Year → Bool
+allowed due y = cond (y .planned) (smallActivity (figuresFor due y)) true
+
+-- a year, for what is due; "13 right after PL", before what follows is looked at
 unfoldable pub year : Due → Reader Year
-year due = yearLeft (due .state .year) (due .state .left) (due .terms .start .0) (due .terms .beltstart .0)
+year due = do
+  y ← yearLeft (recordsFor (due .plan) (due .state .year)) (due .state .year) (due .state .left) (due .terms .start .0) (due .terms .beltstart .0)
+  holds plannedYearWrong (allowed due y)
+  give y
 
 -- "EN is due only after n years; YR stays due there and gives 6"; "mark not due here, or bytes after EN": 2
 unfoldable pub end : Reader (Unit {0})
@@ -75,11 +106,11 @@ years (suc more) due before = do
   y ← year due
   years more (next y due) (before ++ (y ∷ []))
 
--- the dossier: HD to MP, then n years, then EN
-unfoldable pub dossier : Reader Dossier
-dossier = do
+-- the dossier, under a plan: HD to MP, then n years, then EN
+unfoldable pub dossier : Option Plan → Reader Dossier
+dossier plan = do
   o ← opening
-  ys ← years (o .head .years) (settled o) []
+  ys ← years (o .head .years) (firstDue plan o) []
   give (record { opening = o; years = ys })
 
 -- "An opening piece ends after DA (Option 1) or MP"
@@ -89,7 +120,7 @@ openingPiece = do
   endOfPiece
   give o
 
--- "a year piece after CD or any activity record"
+-- "a year piece after CD or any activity record"; #103: "a year piece may end with" PL
 unfoldable pub yearPiece : Due → Reader Year
 yearPiece due = do
   y ← year due

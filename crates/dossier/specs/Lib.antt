@@ -1,8 +1,10 @@
 pub mod Causes
 pub mod Marks
 pub mod Layouts
+pub mod Plan
 pub mod Records
 pub mod Reader
 pub mod JudgingRecords
 pub mod Judging
+pub mod JudgingPlan
 pub mod Claims

@@ -88,6 +88,10 @@ within cause low x high s = cond (outside low x high) (refused cause) (accepted 
 unfoldable pub equal : (cause x y : ℕ) → Reader (Unit {0})
 equal cause x y s = cond (eqb x y) (accepted tt s) (refused cause)
 
+-- refuses for the cause unless the test holds
+unfoldable pub holds : (cause : ℕ) → Bool → Reader (Unit {0})
+holds cause test s = cond test (accepted tt s) (refused cause)
+
 -- "nothing after it": any byte more is 2
 unfoldable pub nothing : Reader (Unit {0})
 nothing s = cond (ltb 0 (length s)) (refused markNotDue) (accepted tt s)

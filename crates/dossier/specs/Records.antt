@@ -3,6 +3,7 @@
 -- To be believed. Assumes nothing.
 use Prim.Native.Nat.{ℕ, _≤_, _<_}
 use mathlib.Core.Path.{_≡_}
+use mathlib.Core.Bool.{Bool, true, false}
 use mathlib.Core.Option.{Option, none, some}
 use mathlib.Core.List.{List, [], _∷_, map}
 use lib.IntN.{pos}
@@ -12,14 +13,18 @@ use Rattle.classes.specs.Classes.{classes, NF, carbonStocks, greatestArea, grea
 use Rattle.classes.specs.Matrix.{RowsSum, optionOneMatrix}
 use Rattle.classes.specs.Calendar.{daysInYear}
 use Rattle.projection.specs.Projection.{openedRegion}
+use Rattle.activity.specs.declared.Activity.{Activity}
 use Rattle.activity.specs.Activity.{Within, ActivitiesInRange}
 use Rattle.figures.specs.declared.Terms.{Terms}
 use Rattle.figures.specs.declared.State.{State}
 use Rattle.figures.specs.Year.{Year}
-use Rattle.figures.specs.Reckoning.{afterYear}
+use Rattle.figures.specs.declared.Figures.{Figures}
+use Rattle.figures.specs.Figures.{smallActivity}
+use Rattle.figures.specs.Reckoning.{yearFigures, afterYear}
 use Rattle.wire.specs.Bytes.{bytes, bytesOfEach, joined, total}
-use Rattle.dossier.specs.Marks.{HD, ST, PA, DA, MP, YR, CP, CD, EN}
+use Rattle.dossier.specs.Marks.{HD, ST, PA, DA, MP, YR, CP, CD, PL, EN}
 use Rattle.dossier.specs.Layouts.{activityBytes}
+use Rattle.dossier.specs.Plan.{Plan, PlanLent, planBytes, recordsFor}
 
 -- "HD: option 8 bits (1 or 2), first year 16 bits (2000 to 2200), years n 8 bits (1 to 20)"
 pub record Head : Type 0 where
@@ -142,17 +147,26 @@ emptyState = record {
   total = record { 0 = pos 0 };
 }
 
--- what a year is judged against: the terms, and the state that the years before it left
-pub record Due : Type 0 where
+-- what an opening settles: the terms, and the state that it starts
+pub record Settled : Type 0 where
   pub terms : Terms
   pub state : State
 
-unfoldable pub settled : Opening → Due
+unfoldable pub settled : Opening → Settled
 settled o = record { terms = termsOf o; state = stateOf o }
 
--- what is due once a year is given
+-- what a year is judged against: the terms, the state that the years before it left, and the plan that is lent (#103)
+pub record Due : Type 0 where
+  pub terms : Terms
+  pub state : State
+  pub plan : Option Plan
+
+-- after an opening, and once a year is given
+unfoldable pub firstDue : Option Plan → Opening → Due
+firstDue plan o = record { terms = termsOf o; state = stateOf o; plan = plan }
+
 unfoldable pub next : Year → Due → Due
-next y due = record { terms = due .terms; state = afterYear (due .terms) y (due .state) }
+next y due = record { terms = due .terms; state = afterYear (due .terms) y (due .state); plan = due .plan }
 
 -- "CP and CD, 144 conversions of 64 bits each, diagonal included, whose sum is the total of PA or DA" (sum)
 pub record ConversionsInRange (sum : ℕ) (conversions : List ℕ) : Type 0 where
@@ -162,20 +176,35 @@ pub record ConversionsInRange (sum : ℕ) (conversions : List ℕ) : Type 0 wher
 unfoldable pub conversionsBytes : ℕ → List ℕ → List ℕ
 conversionsBytes m conversions = joined (bytes 2 m ∷ bytesOfEach 8 conversions ∷ [])
 
--- "YR with year and d, 16 bits each (from the first year on without a gap; d from 1 to D); CP and CD, ..; then 0 to 60 activity records", for what is due
+-- a year's activity records: "0 to 60" of its own, or those that the plan has for the year (#103: "takes that year's records from the plan")
+abbrev pub RecordsInRange : (fromPlan : Option (List Activity)) (planned : Bool) → List Activity → Type 0
+RecordsInRange fromPlan false activities = (length activities ≤ 60) × ActivitiesInRange activities
+RecordsInRange fromPlan true activities = fromPlan ≡ some activities
+
+-- #103, "a record PL (no fields) may stand instead of the activity records"
+unfoldable pub recordsBytes : (planned : Bool) → List Activity → List ℕ
+recordsBytes false activities = joined (map activityBytes activities)
+recordsBytes true activities = bytes 2 PL
+
+-- the figures of a year, for what is due
+abbrev pub figuresFor : Due → Year → Figures
+figuresFor due y = yearFigures (due .terms) y (due .state .project) (due .state .belt)
+
+-- "YR with year and d, 16 bits each (from the first year on without a gap; d from 1 to D); CP and CD, ..; then 0 to 60 activity records" or PL, for what
+-- is due; with PL "the year must satisfy 20 × activity < project + displaced + activity" (#103)
 pub record YearInRange (due : Due) (y : Year) : Type 0 where
   pub left : 1 ≤ due .state .left
   pub year : y .year ≡ due .state .year
   pub days : Within 1 (y .operatingDays) (daysInYear (y .year))
   pub conversions : ConversionsInRange (due .terms .start .0) (y .conversions)
   pub beltConversions : ConversionsInRange (due .terms .beltstart .0) (y .beltConversions)
-  pub count : length (y .activities) ≤ 60
-  pub activities : ActivitiesInRange (y .activities)
+  pub records : RecordsInRange (recordsFor (due .plan) (y .year)) (y .planned) (y .activities)
+  pub small : y .planned ≡ true → smallActivity (figuresFor due y) ≡ true
 
 unfoldable pub yearBytes : Year → List ℕ
 yearBytes y =
     joined (bytes 2 YR ∷ bytes 2 (y .year) ∷ bytes 2 (y .operatingDays)
-    ∷ conversionsBytes CP (y .conversions) ∷ conversionsBytes CD (y .beltConversions) ∷ joined (map activityBytes (y .activities)) ∷ [])
+    ∷ conversionsBytes CP (y .conversions) ∷ conversionsBytes CD (y .beltConversions) ∷ recordsBytes (y .planned) (y .activities) ∷ [])
 
 -- years given one after the other
 abbrev pub YearsInRange : Due → List Year → Type 0
@@ -187,20 +216,25 @@ pub record Dossier : Type 0 where
   pub opening : Opening
   pub years : List Year
 
-pub record DossierInRange (d : Dossier) : Type 0 where
+-- under a plan
+pub record DossierInRange (plan : Option Plan) (d : Dossier) : Type 0 where
   pub opening : OpeningInRange (d .opening)
   pub count : length (d .years) ≡ d .opening .head .years
-  pub years : YearsInRange (settled (d .opening)) (d .years)
+  pub years : YearsInRange (firstDue plan (d .opening)) (d .years)
 
 unfoldable pub dossierBytes : Dossier → List ℕ
 dossierBytes d = joined (openingBytes (d .opening) ∷ joined (map yearBytes (d .years)) ∷ bytes 2 EN ∷ [])
 
--- well formed, with n years: the bytes of records in range, and nothing else; so too an opening piece, and a year piece for what is settled
-abbrev pub WellFormedYears : ℕ → List ℕ → Type 0
-WellFormedYears n s = (d : Dossier) × DossierInRange d × (s ≡ dossierBytes d) × (length (d .years) ≡ n)
+-- well formed: the bytes of records in range, and nothing else. A dossier with n years, under a plan; an opening piece; a year piece, for what is due;
+-- and what is lent as a plan, "Zero bytes mean no plan"
+abbrev pub WellFormedYears : ℕ → Option Plan → List ℕ → Type 0
+WellFormedYears n plan s = (d : Dossier) × DossierInRange plan d × (s ≡ dossierBytes d) × (length (d .years) ≡ n)
 
 abbrev pub WellFormedOpening : List ℕ → Type 0
 WellFormedOpening s = (o : Opening) × OpeningInRange o × (s ≡ openingBytes o)
 
 abbrev pub WellFormedYear : Due → List ℕ → Type 0
 WellFormedYear due s = (y : Year) × YearInRange due y × (s ≡ yearBytes y)
+
+abbrev pub WellFormedPlan : Option Plan → List ℕ → Type 0
+WellFormedPlan plan s = PlanLent plan × (s ≡ bytesIfAny planBytes plan)

@@ -1,10 +1,11 @@
 -- Document 01, "A year's figures", in grams of CO2. d = operating days, D = days of that Gregorian year.
 -- To be believed. Assumes nothing.
 use Prim.Native.Nat.{ℕ, _*_, _/_}
-use mathlib.Core.Bool.{cond}
+use mathlib.Core.Bool.{Bool, cond}
 use mathlib.Core.List.{List}
 use lib.Dec.{eqb}
-use lib.IntN.{ℤ, pos, negsuc, _-ℤ_}
+use lib.IntN.{ℤ, pos, negsuc, _+ℤ_, _-ℤ_, _*ℤ_}
+use lib.Signed.{ltZ}
 use Rattle.arithmetic.specs.Sum.{sum}
 use Rattle.arithmetic.specs.Rounding.{ceilDiv, positivePart}
 use Rattle.classes.specs.Classes.{classes, NF}
@@ -71,3 +72,7 @@ figuresOf reference project activity belt beltReference = record {
   reduction = record { 0 = reductionOf reference project activity (displacedEmissions belt beltReference) };
   credited = record { 0 = creditedOf (reductionOf reference project activity (displacedEmissions belt beltReference)) };
 }
+
+-- #103, "20 × activity < project + displaced + activity": activity is below five percent of the project net emissions (document 001, H(2))
+unfoldable pub smallActivity : Figures → Bool
+smallActivity f = ltZ (pos 20 *ℤ f .activity .0) (f .project .0 +ℤ f .displaced .0 +ℤ f .activity .0)

@@ -14,9 +14,9 @@ ghost use Rattle.classes.specs.Classes.{NF, emissionFactor};
 ghost use Rattle.classes.specs.Matrix.{entry, tableOf};
 ghost use Rattle.classes.specs.Rows.{withRow};
 ghost use Rattle.classes.specs.Ranges.{greatestEmissions, greatestActivity, greatestFigure};
-ghost use Rattle.figures.specs.Figures.{referenceLevel, countedFactor, stockChangeEmissions, displacedEmissions, creditedOf, tonnesOf, noFigures};
+ghost use Rattle.figures.specs.Figures.{referenceLevel, countedFactor, stockChangeEmissions, displacedEmissions, creditedOf, tonnesOf, noFigures, smallActivity};
 ghost use Rattle.figures.specs.Carbon.{carbonFigures};
-ghost use Rattle.figures.specs.Ranges.{SmallCarbon, SmallYear, DaysOf};
+ghost use Rattle.figures.specs.Ranges.{SmallCarbon, SmallYear, DaysOf, SmallNet};
 
 // What an opening settles and no year changes: the option, the carbon stocks and the matrix in use, and the starting areas of project and belt.
 pub struct Terms {
@@ -206,4 +206,16 @@ pub fn year_figures(
         reduction,
         credited,
     }
+}
+
+// Whether a year's activity emissions are small enough for planned quantities: below five percent of its project net emissions.
+pub fn small_activity(figures: Figures) -> bool
+    requires { ⌜ SmallNet figures ⌝ }
+    ensures { λ r. ⌜ r ≡ smallActivity figures ⌝ }
+{
+    let project = figures.project;
+    let activity = figures.activity;
+    let displaced = figures.displaced;
+    let net = project.plus(displaced).plus(activity);
+    20 * activity.0 < net.0
 }

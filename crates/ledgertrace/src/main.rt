@@ -1,10 +1,12 @@
-// Makes the calls that standard input lists on one ledger, and prints a line for each: for testers.
+// Makes the calls that standard input lists on one ledger, and prints a line for each but the plans: for testers.
 //
-// A call is `O` (open) or `Y` (year), a big-endian 32-bit length up to 65,536 and that many bytes; or `C` (close) and the
-// big-endian 32-bit length of a buffer, up to 65,536. Before any `O` the ledger is the empty one. The list ends where a call
-// is cut or is none of these. A line is `open N`, `year N` or `close N`, N the call's number; after an accepted closing of k
-// years the 8 × k + 4 numbers that it wrote follow, each after a space. A closing is lent a buffer full of one byte; where a byte
-// beyond the report, or after a refusal any byte, is another one, the line `buffer changed` follows.
+// A call is `O` (open), `Y` (year) or `P` (plan), a big-endian 32-bit length up to 65,536 and that many bytes; or `C` (close)
+// and the big-endian 32-bit length of a buffer, up to 65,536. Before any `O` the ledger is the empty one. The bytes of a `P` are
+// the plan that each year after it is lent, until the next `P`; before any `P`, and after one of length 0, there is none. An `O`
+// keeps the plan. The list ends where a call is cut or is none of these. A line is `open N`, `year N` or `close N`, N the call's
+// number, and a `P` has none; after an accepted closing of k years the 8 × k + 4 numbers that it wrote follow, each after a
+// space. A closing is lent a buffer full of one byte; where a byte beyond the report, or after a refusal any byte, is another
+// one, the line `buffer changed` follows.
 use libc::STDOUT_FILENO;
 use reckoner::Answer;
 use reckoner::Ledger;
@@ -18,11 +20,14 @@ const OPEN: u8 = b'O';
 
 const YEAR: u8 = b'Y';
 
+const PLAN: u8 = b'P';
+
 const CLOSE: u8 = b'C';
 
-// The ledger, and how many more calls the list may have: none once it has ended.
+// The ledger, the length of the plan, and how many more calls the list may have: none once it has ended.
 struct Trace {
     ledger: Ledger,
+    planned: usize,
     left: u64,
 }
 
@@ -41,7 +46,7 @@ fn print_answer(word: &[u8], answer: Answer)
 }
 
 fn trace_open(mut trace: Trace, piece: &[u8]) -> Trace
-    ensures { λ r. ⌜ HandedBack (r .ledger) × (r .left ≡ trace .left) ⌝ }
+    ensures { λ r. ⌜ HandedBack (r .ledger) × (r .planned ≡ trace .planned) × (r .left ≡ trace .left) ⌝ }
 {
     let step = Ledger::open(piece);
     let ledger = step.ledger;
@@ -51,12 +56,12 @@ fn trace_open(mut trace: Trace, piece: &[u8]) -> Trace
     trace
 }
 
-fn trace_year(mut trace: Trace, piece: &[u8]) -> Trace
+fn trace_year<'a>(mut trace: Trace, piece: &'a [u8], plan: &'a [u8]) -> Trace
     requires { ⌜ HandedBack (trace .ledger) ⌝ }
-    ensures { λ r. ⌜ HandedBack (r .ledger) × (r .left ≡ trace .left) ⌝ }
+    ensures { λ r. ⌜ HandedBack (r .ledger) × (r .planned ≡ trace .planned) × (r .left ≡ trace .left) ⌝ }
 {
     let before = trace.ledger;
-    let step = before.year(piece);
+    let step = before.year(piece, plan);
     let ledger = step.ledger;
     let answer = step.answer;
     print_answer(b"year", answer);
@@ -76,7 +81,7 @@ fn print_closing(n: u8, result: &[u8], end: usize)
 
 fn trace_close(mut trace: Trace, result: &mut [u8]) -> Trace
     requires { ⌜ HandedBack (trace .ledger) ⌝ }
-    ensures { λ r. ⌜ HandedBack (r .ledger) × (r .left ≡ trace .left) ⌝ }
+    ensures { λ r. ⌜ HandedBack (r .ledger) × (r .planned ≡ trace .planned) × (r .left ≡ trace .left) ⌝ }
 {
     let before = trace.ledger;
     let step = before.close(result);
@@ -90,10 +95,23 @@ fn trace_close(mut trace: Trace, result: &mut [u8]) -> Trace
     trace
 }
 
+// Reads the plan that the years after it are lent; the list ends where it is cut.
+fn trace_plan(mut trace: Trace, plan: &mut [u8]) -> Trace
+    requires { ⌜ HandedBack (trace .ledger) ⌝ }
+    ensures { λ r. ⌜ HandedBack (r .ledger) × (r .planned ≡ length (now (plan .entry))) × (r .left ≤ trace .left) ⌝ }
+{
+    trace.planned = plan.len();
+    if !console::read_piece(plan) {
+        trace.left = 0;
+    }
+    trace
+}
+
 // The next call of the list, if it is whole.
-fn trace_call(mut trace: Trace) -> Trace
+fn trace_call(mut trace: Trace, plan: &mut [u8]) -> Trace
     requires { ⌜ HandedBack (trace .ledger) × (0 < trace .left) ⌝ }
-    ensures { λ r. ⌜ HandedBack (r .ledger) × (r .left < trace .left) ⌝ }
+    requires { ⌜ (length (now plan) ≡ 65536) × (trace .planned ≤ 65536) ⌝ }
+    ensures { λ r. ⌜ HandedBack (r .ledger) × (r .planned ≤ 65536) × (r .left < trace .left) ⌝ }
 {
     let mark = console::read_byte();
     let length = console::read_length();
@@ -103,12 +121,16 @@ fn trace_call(mut trace: Trace) -> Trace
         if mark == CLOSE {
             return trace_close(trace, &mut space[..length]);
         }
+        if mark == PLAN {
+            return trace_plan(trace, &mut plan[..length]);
+        }
         let is_whole = console::read_piece(&mut space[..length]);
         if is_whole && mark == OPEN {
             return trace_open(trace, &space[..length]);
         }
         if is_whole && mark == YEAR {
-            return trace_year(trace, &space[..length]);
+            let planned = trace.planned;
+            return trace_year(trace, &space[..length], &plan[..planned]);
         }
     }
     trace.left = 0;
@@ -118,11 +140,13 @@ fn trace_call(mut trace: Trace) -> Trace
 fn main() {
     let step = Ledger::open(b"");
     let ledger = step.ledger;
+    let mut plan = io::large_buffer();
     let mut trace = Trace {
         ledger,
+        planned: 0,
         left: u64::MAX,
     };
     while trace.left > 0 {
-        trace = trace_call(trace);
+        trace = trace_call(trace, &mut plan);
     }
 }

@@ -9,7 +9,7 @@ use Rattle.wire.specs.Bytes.{total}
 use Rattle.classes.specs.declared.AreaUnits.{AreaUnits}
 use Rattle.dossier.specs.Marks.{PA, DA}
 use Rattle.dossier.specs.Reader.{Judged, refused, accepted, Reader, _>>=_, give}
-use Rattle.dossier.specs.Records.{Head, stocksInUse, matrixInUse, emptyTerms, emptyState, Due, settled}
+use Rattle.dossier.specs.Records.{Head, stocksInUse, matrixInUse, emptyTerms, emptyState, Settled, settled}
 use Rattle.dossier.specs.JudgingRecords.{stocksIfAny, areas, matrixUnder}
 use Rattle.dossier.specs.Judging.{opening, openingPiece}
 use Rattle.opening.specs.declared.Head.{Head as HeadFields}
@@ -81,11 +81,11 @@ areasInside s r = areasFacts s (r .areas) (r .answer)
 abbrev pub noOpening : ℕ → Opened
 noOpening n = record { answer = OpeningAnswer.Refused n; terms = emptyTerms; state = emptyState }
 
-abbrev pub openedJudged : List ℕ → Due → OpeningAnswer → Judged Due
+abbrev pub openedJudged : List ℕ → Settled → OpeningAnswer → Judged Settled
 openedJudged s due (OpeningAnswer.Read next) = accepted due (drop next s)
 openedJudged s due (OpeningAnswer.Refused n) = refused n
 
-abbrev pub openedSays : List ℕ → Opened → Judged Due
+abbrev pub openedSays : List ℕ → Opened → Judged Settled
 openedSays s r = openedJudged s (record { terms = r .terms; state = r .state }) (r .answer)
 
 -- read: the next record begins inside
@@ -97,30 +97,30 @@ abbrev pub openedInside : List ℕ → Opened → Type 0
 openedInside s r = openedFacts s r (r .answer)
 
 -- what an opening settles
-unfoldable pub settledOpening : Reader Due
+unfoldable pub settledOpening : Reader Settled
 settledOpening = do
   o ← opening
   give (settled o)
 
 -- of an opening piece, after which nothing follows
-unfoldable pub settledPiece : Reader Due
+unfoldable pub settledPiece : Reader Settled
 settledPiece = do
   o ← openingPiece
   give (settled o)
 
 -- from DA on, after HD and PA, by the stocks in use; from PA on; from ST on, after HD
-unfoldable pub fromBelt : Head → (stocks project : List ℕ) → Reader Due
+unfoldable pub fromBelt : Head → (stocks project : List ℕ) → Reader Settled
 fromBelt h stocks project = do
   belt ← areas DA 0
   matrix ← settledMatrix (h .option)
   give (settled (record { head = h; stocks = some stocks; projectAreas = project; beltAreas = belt; matrix = some matrix }))
 
-unfoldable pub fromAreas : Head → List ℕ → Reader Due
+unfoldable pub fromAreas : Head → List ℕ → Reader Settled
 fromAreas h stocks = do
   project ← areas PA 1
   fromBelt h stocks project
 
-unfoldable pub fromStocks : Head → Reader Due
+unfoldable pub fromStocks : Head → Reader Settled
 fromStocks h = do
   stocks ← settledStocks
   fromAreas h stocks

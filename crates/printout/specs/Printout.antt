@@ -1,7 +1,8 @@
 -- Document 01, "Calls and sheet": "Program `yearsheet` reads a dossier on standard input".
 -- To be believed. Assumes nothing.
 use Prim.Native.Nat.{ℕ}
-use mathlib.Core.List.{List}
+use mathlib.Core.Option.{none}
+use mathlib.Core.List.{List, []}
 use lib.ListN.{replicate}
 use Rattle.dossier.specs.Records.{Dossier}
 use Rattle.dossier.specs.Reader.{Judged, refused, accepted}
@@ -14,6 +15,6 @@ abbrev pub printed : Judged Dossier → List ℕ → List ℕ
 printed (refused n) result = refusalOf n
 printed (accepted d rest) result = sheetOf (d .opening .head .firstYear) (d .opening .head .years) result
 
--- the result is written into a buffer for 20 years
+-- it lends no plan (#103); the result is written into a buffer for 20 years
 unfoldable pub printout : List ℕ → List ℕ
-printout s = printed (dossier s) (reckonBuffer s (replicate 1312 0))
+printout s = printed (dossier none s) (reckonBuffer s [] (replicate 1312 0))

@@ -16,11 +16,11 @@ fn write_ledger_sheet(ledger: Ledger, out: &mut [u8; 4096]) -> usize
     sheet::write_sheet(ledger.first_year() as u16, ledger.years(), &result, out)
 }
 
-// The sheet of a dossier or the line of its refusal; the number of bytes written. The bytes beyond keep their content.
+// The sheet of a dossier, with no plan lent, or the line of its refusal; the number of bytes written. The bytes beyond keep their content.
 pub fn write_printout(dossier: &[u8], out: &mut [u8; 4096]) -> usize
     ensures { λ r. ⌜ Written (printout (now (dossier .entry))) (now (out .entry)) r (now (out .exit)) ⌝ }
 {
-    let made = Ledger::of_dossier(dossier);
+    let made = Ledger::of_dossier(dossier, &dossier[..0]);
     let answer = made.answer;
     let ledger = made.ledger;
     match answer {

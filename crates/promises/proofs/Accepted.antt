@@ -3,15 +3,18 @@
 use Prim.Native.Nat.{ℕ, _+_, _*_, _≤_}
 use mathlib.Core.Path.{_≡_, refl}
 use mathlib.Core.Logic.{_↔_, Iff·symm}
+use mathlib.Core.Option.{Option}
 use mathlib.Core.List.{List}
 use native.Mathlib.Omega.{arith}
 use lib.ListN.{length}
 use Rattle.wire.specs.Bytes.{Bytes}
 use Rattle.figures.specs.Year.{Year}
-use Rattle.dossier.specs.Records.{Opening, WellFormedYears, WellFormedOpening, WellFormedYear}
+use Rattle.dossier.specs.Plan.{Plan}
+use Rattle.dossier.specs.Records.{Opening, WellFormedYears, WellFormedOpening, WellFormedYear, WellFormedPlan}
 use Rattle.dossier.specs.Reader.{Judged, refused, accepted}
 use Rattle.dossier.specs.Claims.{numberOf}
 use Rattle.dossier.specs.Judging.{openingPiece, yearPiece}
+use Rattle.dossier.specs.JudgingPlan.{under}
 use Rattle.dossier.proofs.Numbers.{opening-zero, year-zero}
 use Rattle.reckoner.specs.declared.Ledger.{Ledger}
 use Rattle.reckoner.specs.Ledger.{dueOf}
@@ -34,15 +37,18 @@ open-when : (piece : List ℕ) → Bytes piece → (answerNumber (openCall piece
 unfolding openCall
 open-when piece b = rw (open-number (openingPiece piece)) (Iff·symm (opening-zero piece b))
 
-year-when : {l : Ledger} → HandedBack l → (piece : List ℕ) → Bytes piece → (answerNumber (yearCall l piece .answer) ≡ 0) ↔ WellFormedYear (dueOf l) piece
+year-when : {l : Ledger} → HandedBack l → (piece plan : List ℕ) → Bytes piece → Bytes plan
+    → (answerNumber (yearCall l piece plan .answer) ≡ 0) ↔ ((p : Option Plan) × WellFormedPlan p plan × WellFormedYear (dueOf p l) piece)
 unfolding yearCall
-year-when {l} k piece b = rw (year-number l (yearPiece (dueOf l) piece)) (Iff·symm (year-zero (dueOf l) (due-kept l (handed-kept k)) piece b))
+year-when {l} k piece plan b bp =
+    rw (year-number l (under plan (λ p. yearPiece (dueOf p l)) piece)) (Iff·symm (year-zero (λ p. dueOf p l) (λ p lent. due-kept p lent l (handed-kept k)) piece plan b bp))
 
-reckoning-when : (s : List ℕ) → Bytes s → (size : ℕ) → (reckonNumber s size ≡ 0) ↔ ((n : ℕ) × WellFormedYears n s × (64 * n + 32 ≤ size))
-reckoning-when s b size =
-    let x = number-zero s b size in (
-      (λ h. let w = x .1 h in (length (w .0 .years), (w .0, w .1, w .2, refl), omega (arith, w .1 .count, w .3))),
-      λ w. let d = w .1 in x .0 (d .0, d .1, d .2, omega (arith, d .1 .count, d .3, w .2)),
+reckoning-when : (s plan : List ℕ) → Bytes s → Bytes plan → (size : ℕ)
+    → (reckonNumber s plan size ≡ 0) ↔ ((p : Option Plan) × WellFormedPlan p plan × ((n : ℕ) × WellFormedYears n p s × (64 * n + 32 ≤ size)))
+reckoning-when s plan b bp size =
+    let x = number-zero s plan b bp size in (
+      (λ h. let (p, w, (d, r, e, enough)) = x .1 h in (p, w, (length (d .years), (d, r, e, refl), omega (arith, r .count, enough)))),
+      λ (p, w, (n, (d, r, e, count), enough)). x .0 (p, w, (d, r, e, omega (arith, r .count, count, enough))),
     )
 
 pub accepted-when : AcceptedWhen

@@ -23,18 +23,18 @@ use Rattle.assurance.proofs.YearLaws.{Reckoned, opened-reckoned}
 use Rattle.wire.specs.Bytes.{Bytes}
 use Rattle.wire.specs.Signed.{figureAt}
 use Rattle.report.specs.Report.{eight, closing}
-use Rattle.dossier.specs.Records.{Opening, OpeningInRange, termsOf, stateOf, emptyTerms, emptyState, settled, YearsInRange}
+use Rattle.dossier.specs.Records.{Opening, OpeningInRange, termsOf, stateOf, emptyTerms, emptyState, Settled, settled}
 use Rattle.dossier.specs.Reader.{Judged, refused, accepted}
 use Rattle.dossier.specs.Judging.{openingPiece}
 use Rattle.reckoner.specs.declared.Ledger.{Ledger}
-use Rattle.reckoner.specs.Ledger.{newLedger, emptyLedger, openedLedger, dueOf, givenYears}
+use Rattle.reckoner.specs.Ledger.{newLedger, emptyLedger, openedLedger, givenYears}
 use Rattle.reckoner.specs.Calls.{openJudged, openCall, closedBuffer, opened}
 use Rattle.reckoner.proofs.RegionKept.{units-total}
-use Rattle.reckoner.proofs.Invariant.{LedgerKept, open-either, open-kept, in-use-rows, years-kept}
+use Rattle.reckoner.proofs.Invariant.{LedgerKept, open-either, open-kept, in-use-rows, YearsTaken, years-kept}
 use Rattle.reckoner.proofs.Numbers.{given-count}
 use Rattle.promises.specs.CallList.{Call, afterCalls, ledgerAfter, LentBytes, acceptedYears, yearsAfter, standingCalls, standing}
 use Rattle.promises.specs.Reported.{yearsFigures, RegionReported, Reported}
-use Rattle.promises.specs.Lists.{openedDue, ClosingAssured, ListAssured}
+use Rattle.promises.specs.Lists.{settledBy, ClosingAssured, ListAssured}
 use Rattle.promises.proofs.ClosingLaws.{year-figure, last-figure}
 use Rattle.promises.proofs.YearsLaws.{own-figures, given-total, from-nothing, given-project, given-belt, years-reckoned}
 use Rattle.promises.proofs.CallsLaws.{calls-handed, brought-when, gives, stands, standing-count}
@@ -69,16 +69,19 @@ opening-opened : (piece : List ℕ) → Bytes piece → Opened (openCall piece .
 opening-opened = open-either Opened opened-empty opened-opening
 
 -- what it settled
-pub opening-due : (piece : List ℕ) → dueOf (openCall piece .ledger) ≡ openedDue (openingPiece piece)
+abbrev settledIn : Ledger → Settled
+settledIn l = record { terms = l .terms; state = l .state }
+
+pub opening-settled : (piece : List ℕ) → settledIn (openCall piece .ledger) ≡ settledBy (openingPiece piece)
 unfolding openCall
-opening-due piece = go (openingPiece piece)
+opening-settled piece = go (openingPiece piece)
   where
-    go : (j : Judged Opening) → dueOf (openJudged j .ledger) ≡ openedDue j
-    go (refused n) = unfold emptyLedger newLedger dueOf in refl
-    go (accepted o rest) = unfold openedLedger newLedger dueOf settled in refl
+    go : (j : Judged Opening) → settledIn (openJudged j .ledger) ≡ settledBy j
+    go (refused n) = unfold emptyLedger newLedger in refl
+    go (accepted o rest) = unfold openedLedger newLedger settled in refl
 
 -- ---- that ledger given years in range, and closed
-module _ (l : Ledger) (o : Opened l) (k : LedgerKept l) (ys : List Year) (inRange : YearsInRange (dueOf l) ys) where
+module _ (l : Ledger) (o : Opened l) (k : LedgerKept l) (ys : List Year) (inRange : YearsTaken l ys) where
   abbrev after : Ledger
   after = givenYears ys l
 
@@ -121,8 +124,7 @@ module _ (l : Ledger) (o : Opened l) (k : LedgerKept l) (ys : List Year) (inRang
         year-figure after kept-is buffer (omega (arith, count-is)) i j (omega (arith, count-is)) hj
         ∙ ap (λ (f : Figures). getD (eight f) j (pos 0)) own
 
-    reported : Reported (dueOf l) ys closed
-    unfolding dueOf
+    reported : Reported (settledIn l) ys closed
     reported = record {
       figures = year-is;
       total = total-back ∙ given-total ys l ∙ from-nothing _ _ (o .nothing);
@@ -143,7 +145,7 @@ module _ (opening : List ℕ) (b : Bytes opening) where
       record {
         handed = calls-handed calls _ c (opened opening b);
         count = rw (g .ledger) (count-is _ o k _ (g .inRange));
-        closed = λ buffer h. rw (g .ledger, ← opening-due opening) (reported _ o k _ (g .inRange) buffer h);
+        closed = λ buffer h. rw (g .ledger, ← opening-settled opening) (reported _ o k _ (g .inRange) buffer h);
       }
 
   -- the calls that stand come to the same

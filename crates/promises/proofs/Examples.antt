@@ -16,11 +16,13 @@ use Rattle.figures.specs.Reckoning.{regionReference, tableEmissions, yearFigure
 use Rattle.assurance.specs.Unrounded.{openedᶠ, flowᶠ, carbonᶠ, referenceᶠ, emissionsᶠ, activityᶠ, displacedᶠ, reductionᶠ, creditedᶠ, afterYearᶠ, afterYearsᶠ}
 use Rattle.wire.specs.Bytes.{number, bytes, numbers, bytesOfEach, joined, total, fieldAt}
 use Rattle.wire.specs.Signed.{twosComplement, figureBytes, figuresBytes, written, signed, figureAt}
-use Rattle.dossier.specs.Records.{headBytes, areasBytes, bytesIfAny, openingBytes, termsOf, stateOf, settled, next, conversionsBytes, yearBytes, dossierBytes}
+use Rattle.dossier.specs.Records.{headBytes, areasBytes, bytesIfAny, openingBytes, termsOf, stateOf, firstDue, next, conversionsBytes, recordsBytes, yearBytes, dossierBytes}
+use Rattle.dossier.specs.Plan.{recordsFor}
 use Rattle.dossier.specs.Layouts.{activityBytes}
-use Rattle.dossier.specs.Reader.{_>>=_, _>>_, give, mark, stands, upon, ifAny, present, begin, field, fields, outside, within, equal, nothing}
+use Rattle.dossier.specs.Reader.{_>>=_, _>>_, give, mark, stands, upon, ifAny, present, begin, field, fields, outside, within, equal, holds, nothing}
 use Rattle.dossier.specs.JudgingRecords.{head, stocksIfAny, areas, matrixUnder, conversions, inRange, fieldsOf, activityMark, activityUnder, activity}
-use Rattle.dossier.specs.Judging.{opening, run, activities, yearRecords, yearLeft, year, end, years, dossier}
+use Rattle.dossier.specs.Judging.{opening, run, activities, fromThePlan, taken, yearRecords, yearLeft, year, end, years, dossier}
+use Rattle.dossier.specs.JudgingPlan.{lentPlan, under}
 use Rattle.report.specs.Report.{eights, reported}
 use Rattle.reckoner.specs.Ledger.{newLedger, openedLedger, dueOf, givenYear, givenYears, ledgerOf, report}
 use Rattle.reckoner.specs.Calls.{closedBuffer, dossierCall, reckonBuffer}
@@ -35,14 +37,14 @@ unfolding examples caseA bufferA threeUnits
     bytes bytesOfEach joined headBytes areasBytes bytesIfAny openingBytes conversionsBytes activityBytes yearBytes dossierBytes
     number numbers total _>>=_ _>>_ give mark stands upon ifAny present begin field fields outside within equal nothing
     head stocksIfAny areas matrixUnder conversions inRange fieldsOf activityMark activityUnder activity
-    opening run activities yearRecords yearLeft year end years dossier
+    opening run activities fromThePlan taken yearRecords yearLeft year end years dossier lentPlan under holds recordsFor recordsBytes
     -- classes, projection, activity records, figures
     sum listed ceilDiv carbonStocks deforestationProbabilities emissionFactor optionOne optionOneMatrix daysInYear
     projectedCarbon nextArea nextAreas lostArea openedRegion projectedRegion numerator denominator activityGrams activityEmissions
     referenceLevel monitoredCarbon countedFactor stockChangeEmissions displacedEmissions reductionOf creditedOf tonnesOf figuresOf
     regionReference tableEmissions yearFigures afterFigures afterYear
     -- the ledger, its report and the bytes written
-    termsOf stateOf settled next newLedger openedLedger dueOf givenYear givenYears ledgerOf dossierCall
+    termsOf stateOf firstDue next newLedger openedLedger dueOf givenYear givenYears ledgerOf dossierCall
     report reported eights twosComplement figureBytes figuresBytes written closedBuffer reckonBuffer
     -- read back, and printed
     fieldAt signed figureAt digits decimal decimalOf header spaced yearLine yearLines named totalLine sheetOf printout

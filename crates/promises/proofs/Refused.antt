@@ -1,17 +1,24 @@
 -- Demand 1: a refused call leaves ledger and buffer as they were, and gives the number of one of its causes.
 -- Assumes nothing.
 use Prim.Native.Nat.{ℕ, _+_, _*_, _≤_}
-use mathlib.Core.Path.{_≡_, refl, ap, sym}
+use mathlib.Core.Path.{_≡_, refl, _∙_, ap, sym}
+use mathlib.Core.Option.{Option, none}
 use mathlib.Core.List.{List, []}
 use native.Mathlib.Omega.{arith}
 use borrow.Author.Tests.{lt-ltb}
+use lib.Dec.{lit<}
 use lib.ListN.{length, replicate}
 use Rattle.wire.specs.Bytes.{Bytes}
 use Rattle.figures.specs.Year.{Year}
-use Rattle.dossier.specs.Records.{Opening, Dossier}
+use Rattle.dossier.specs.Causes.{planNotOfForm}
+use Rattle.dossier.specs.Plan.{Plan}
+use Rattle.dossier.specs.Records.{Opening, Dossier, bytesIfAny, WellFormedPlan}
 use Rattle.dossier.specs.Reader.{Judged, refused, accepted}
 use Rattle.dossier.specs.Judging.{dossier, openingPiece, yearPiece}
-use Rattle.dossier.proofs.WellFormed.{dossier-accepted}
+use Rattle.dossier.specs.JudgingPlan.{lentPlan, under}
+use Rattle.dossier.proofs.WellFormed.{dossier-accepted, plan-accepted}
+use Rattle.dossier.proofs.PlanLaws.{lentPlan-refused}
+use Rattle.dossier.proofs.UnderLaws.{under-refused, no-plan}
 use Rattle.reckoner.specs.declared.Ledger.{Ledger}
 use Rattle.reckoner.specs.declared.Answer.{Answer}
 use Rattle.reckoner.specs.Ledger.{emptyLedger, dueOf}
@@ -30,9 +37,9 @@ open-refused piece = go (openingPiece piece)
     go (refused n) h = refl
     go (accepted o rest) h = absurd (h refl)
 
-year-refused : (l : Ledger) (piece : List ℕ) → (answerNumber (yearCall l piece .answer) ≡ 0 → ⊥) → yearCall l piece .ledger ≡ l
+year-refused : (l : Ledger) (piece plan : List ℕ) → (answerNumber (yearCall l piece plan .answer) ≡ 0 → ⊥) → yearCall l piece plan .ledger ≡ l
 unfolding yearCall
-year-refused l piece = go (yearPiece (dueOf l) piece)
+year-refused l piece plan = go (under plan (λ p. yearPiece (dueOf p l)) piece)
   where
     go : (j : Judged Year) → (answerNumber (yearJudged l j .answer) ≡ 0 → ⊥) → yearJudged l j .ledger ≡ l
     go (refused n) h = refl
@@ -44,25 +51,43 @@ close-refused l buffer f =
     let short : 64 * l .given + 32 ≤ length buffer → ⊥ = λ h. f (close-zero l (length buffer) .1 h) in
     rw (lt-ltb (length buffer) (64 * l .given + 32) (omega arith))
 
-reckon-refused : (s buffer : List ℕ) → (reckonNumber s (length buffer) ≡ 0 → ⊥) → reckonBuffer s buffer ≡ buffer
+reckon-refused : (s plan buffer : List ℕ) → (reckonNumber s plan (length buffer) ≡ 0 → ⊥) → reckonBuffer s plan buffer ≡ buffer
 unfolding reckonSays reckonBuffer
-reckon-refused s buffer = go (dossierCall s .answer) (dossierCall s .ledger)
+reckon-refused s plan buffer = go (dossierCall s plan .answer) (dossierCall s plan .ledger)
   where
     go : (a : Answer) (l : Ledger) → (answered a (λ n. said (Answer.Refused n) []) (closeSays l (length buffer)) .number ≡ 0 → ⊥)
         → answered a (λ n. buffer) (closedBuffer l buffer) ≡ buffer
     go Answer.Accepted l h = close-refused l buffer h
     go (Answer.Refused n) l h = refl
 
--- an accepted dossier has at most 20 years
-refusal-printed : (s : List ℕ) → Bytes s → (reckonNumber s 1312 ≡ 0 → ⊥) → printout s ≡ refusalOf (reckonNumber s 1312)
-unfolding printout
-refusal-printed s b h = go (dossier s) refl
+-- bytes that are no plan: 12, before anything else is judged
+not-a-plan : (plan : List ℕ) → Bytes plan → ((p : Option Plan) → WellFormedPlan p plan → ⊥) → lentPlan plan ≡ refused planNotOfForm
+not-a-plan plan b f = go (lentPlan plan) refl
   where
-    go : (j : Judged Dossier) → dossier s ≡ j → printed j (reckonBuffer s (replicate 1312 0)) ≡ refusalOf (reckonNumber s 1312)
-    go (refused n) e = ap refusalOf (sym (number-refused s 1312 n e))
+    go : (j : Judged (Option Plan)) → lentPlan plan ≡ j → j ≡ refused planNotOfForm
+    go (refused n) e = ap (λ (k : ℕ). refused k) (lentPlan-refused plan n e)
+    go (accepted p rest) e = let w = plan-accepted .sound plan b p rest e in absurd (f p (w .0, w .1))
+
+plan-first : (plan : List ℕ) → Bytes plan → ((p : Option Plan) → WellFormedPlan p plan → ⊥)
+    → ((l : Ledger) (piece : List ℕ) → answerNumber (yearCall l piece plan .answer) ≡ planNotOfForm) × ((s : List ℕ) (size : ℕ) → reckonNumber s plan size ≡ planNotOfForm)
+plan-first plan b f = (of-year, λ s size. number-refused s plan size _ (under-refused dossier s plan _ twelve))
+  where
+    twelve : lentPlan plan ≡ refused planNotOfForm
+    twelve = not-a-plan plan b f
+
+    of-year : (l : Ledger) (piece : List ℕ) → answerNumber (yearCall l piece plan .answer) ≡ planNotOfForm
+    of-year l piece = unfold yearCall in rw (under-refused (λ p. yearPiece (dueOf p l)) piece plan planNotOfForm twelve)
+
+-- an accepted dossier has at most 20 years
+refusal-printed : (s : List ℕ) → Bytes s → (reckonNumber s [] 1312 ≡ 0 → ⊥) → printout s ≡ refusalOf (reckonNumber s [] 1312)
+unfolding printout bytesIfAny
+refusal-printed s b h = go (dossier none s) refl
+  where
+    go : (j : Judged Dossier) → dossier none s ≡ j → printed j (reckonBuffer s [] (replicate 1312 0)) ≡ refusalOf (reckonNumber s [] 1312)
+    go (refused n) e = ap refusalOf (sym (number-refused s [] 1312 n (no-plan dossier s ∙ e)))
     go (accepted d rest) e =
-        let w = dossier-accepted .sound s b d rest e in
-        absurd (h (number-zero s b 1312 .0 (d, w .0, w .1, omega (arith, w .0 .opening .head .count .most))))
+        let w = dossier-accepted none tt .sound s b d rest e in
+        absurd (h (number-zero s [] b (λ k. lit< tt) 1312 .0 (none, (tt, refl), (d, w .0, w .1, omega (arith, w .0 .opening .head .count .most)))))
 
 pub refusals-leave : RefusalsLeave
 refusals-leave = record {
@@ -75,5 +100,6 @@ refusals-leave = record {
   yearNumber = year-numbers;
   closingNumber = close-numbers;
   reckoningNumber = reckon-numbers;
+  planFirst = plan-first;
   printing = refusal-printed;
 }

@@ -12,8 +12,9 @@ use Rattle.wire.specs.Bytes.{Bytes}
 use Rattle.dossier.specs.Records.{Dossier}
 use Rattle.dossier.specs.Reader.{Judged, refused, accepted}
 use Rattle.dossier.specs.Judging.{dossier}
+use Rattle.dossier.specs.JudgingPlan.{under}
 use Rattle.dossier.proofs.CauseLaws.{positive, dossierCauses}
-use Rattle.dossier.proofs.Causes.{dossier-causes}
+use Rattle.dossier.proofs.UnderLaws.{dossier-under-causes}
 use Rattle.reckoner.specs.declared.Ledger.{Ledger}
 use Rattle.reckoner.specs.declared.Answer.{Answer}
 use Rattle.reckoner.specs.declared.Step.{Step}
@@ -44,12 +45,13 @@ StepTold r buffer =
     Told (r .ledger .given) (answered (r .answer) (λ n. said (Answer.Refused n) []) (closeSays (r .ledger) (length buffer)))
     (answered (r .answer) (λ n. buffer) (closedBuffer (r .ledger) buffer))
 
-reckoning-told : (s : List ℕ) → Bytes s → (buffer : List ℕ) → Told (dossierCall s .ledger .given) (reckonSays s (length buffer)) (reckonBuffer s buffer)
+reckoning-told : (s plan : List ℕ) → Bytes s → Bytes plan → (buffer : List ℕ)
+    → Told (dossierCall s plan .ledger .given) (reckonSays s plan (length buffer)) (reckonBuffer s plan buffer)
 unfolding reckonSays reckonBuffer dossierCall
-reckoning-told s b buffer = go (dossier s) refl (whole s b)
+reckoning-told s plan b bp buffer = go (under plan dossier s) refl (whole s plan b bp)
   where
-    go : (j : Judged Dossier) → dossier s ≡ j → HandedBack (dossierJudged j .ledger) → StepTold (dossierJudged j) buffer
-    go (refused n) e h = refused-told _ n buffer (λ z. omega (arith, positive dossierCauses tt n (dossier-causes s n e)))
+    go : (j : Judged Dossier) → under plan dossier s ≡ j → HandedBack (dossierJudged j .ledger) → StepTold (dossierJudged j) buffer
+    go (refused n) e h = refused-told _ n buffer (λ z. omega (arith, positive dossierCauses tt n (dossier-under-causes plan s n e)))
     go (accepted d rest) e h = close-told h buffer
 
 pub values-told : ValuesTold

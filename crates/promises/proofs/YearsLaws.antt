@@ -14,9 +14,9 @@ use Rattle.figures.specs.Year.{Year}
 use Rattle.figures.specs.Reckoning.{yearFigures, recordCount, afterFigures, afterYear}
 use Rattle.assurance.specs.Unrounded.{Unrounded, afterYearsᶠ}
 use Rattle.assurance.proofs.YearLaws.{Reckoned, year-reckoned}
-use Rattle.dossier.specs.Records.{next, YearsInRange}
 use Rattle.reckoner.specs.declared.Ledger.{Ledger}
 use Rattle.reckoner.specs.Ledger.{dueOf, givenYear, givenYears}
+use Rattle.reckoner.proofs.Invariant.{YearsTaken}
 use Rattle.promises.specs.Reported.{yearsFigures, periodTotal, projectedYears}
 
 -- a year changes no terms
@@ -63,10 +63,10 @@ given-belt [] l = refl
 given-belt (y ∷ ys) l = given-belt ys (givenYear y l)
 
 -- ---- beside the unrounded reckoning
-pub years-reckoned : (G : ℕ) (ys : List Year) (l : Ledger) → ((i j : ℕ) → emissionFactor (l .terms .stocks) i j ≤ G) → (1 ≤ l .state .left → RowsSum (l .terms .matrix)) → YearsInRange (dueOf l) ys
+pub years-reckoned : (G : ℕ) (ys : List Year) (l : Ledger) → ((i j : ℕ) → emissionFactor (l .terms .stocks) i j ≤ G) → (1 ≤ l .state .left → RowsSum (l .terms .matrix)) → YearsTaken l ys
     → (n m start beltstart : ℕ) (u : Unrounded) → Reckoned G n m start beltstart (l .state) u
     → Reckoned G (n + length ys) (m + recordCount ys) start beltstart (givenYears ys l .state) (afterYearsᶠ (l .terms) ys u)
-unfolding givenYears givenYear dueOf next afterYearsᶠ recordCount
+unfolding givenYears givenYear dueOf afterYearsᶠ recordCount
 years-reckoned G [] l factors rows h n m start beltstart u r =
     let e : n + 0 ≡ n = omega arith in
     let f : m + 0 ≡ m = omega arith in
@@ -74,6 +74,6 @@ years-reckoned G [] l factors rows h n m start beltstart u r =
 years-reckoned G (y ∷ ys) l factors rows h n m start beltstart u r =
     let e : n + suc (length ys) ≡ suc n + length ys = omega arith in
     let f : m + (length (y .activities) + recordCount ys) ≡ m + length (y .activities) + recordCount ys = omega arith in
-    let some : RowsSum (l .terms .matrix) = rows (h .0 .left) in
+    let some : RowsSum (l .terms .matrix) = rows (h .0 .2 .left) in
     rw (e, f) (years-reckoned G ys (givenYear y l) factors (λ _. some) (h .1) (suc n) (m + length (y .activities)) start beltstart _
-    (year-reckoned (l .terms) G factors some n m start beltstart (l .state) u r y (h .0 .days .most)))
+    (year-reckoned (l .terms) G factors some n m start beltstart (l .state) u r y (h .0 .2 .days .most)))

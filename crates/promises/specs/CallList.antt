@@ -9,20 +9,22 @@ use Rattle.wire.specs.Bytes.{Bytes}
 use Rattle.figures.specs.Year.{Year}
 use Rattle.dossier.specs.Reader.{Judged, refused, accepted}
 use Rattle.dossier.specs.Judging.{yearPiece}
+use Rattle.dossier.specs.JudgingPlan.{under}
 use Rattle.reckoner.specs.declared.Ledger.{Ledger}
 use Rattle.reckoner.specs.declared.Answer.{Answer}
 use Rattle.reckoner.specs.declared.Step.{Step}
 use Rattle.reckoner.specs.Ledger.{dueOf}
 use Rattle.reckoner.specs.Calls.{answerNumber, openCall, yearCall, closeCall}
 
--- "year calls, each lent bytes of its own, whatever they are, and closings, each lent a result buffer of any length"
+-- "year calls, each lent bytes of its own, whatever they are, and closings, each lent a result buffer of any length"; #103: "each year call of a list is
+-- lent a plan of its own, whatever it is"
 pub data Call : Type 0 where
-  giving : (piece : List ℕ) → Call
+  giving : (piece plan : List ℕ) → Call
   closing : (buffer : List ℕ) → Call
 
 -- what the call answers and hands back, from the ledger it gets
 unfoldable pub called : Call → Ledger → Step
-called (giving piece) l = yearCall l piece
+called (giving piece plan) l = yearCall l piece plan
 called (closing buffer) l = closeCall l (length buffer)
 
 unfoldable pub afterCall : Call → Ledger → Ledger
@@ -37,10 +39,10 @@ afterCalls (c ∷ calls) l = afterCalls calls (afterCall c l)
 unfoldable pub ledgerAfter : (opening : List ℕ) → List Call → Ledger
 ledgerAfter opening calls = afterCalls calls (openCall opening .ledger)
 
--- what a year call is lent are bytes
+-- what a year call is lent are bytes, twice
 abbrev pub LentBytes : List Call → Type 0
 LentBytes [] = Unit {0}
-LentBytes (giving piece ∷ calls) = Bytes piece × LentBytes calls
+LentBytes (giving piece plan ∷ calls) = (Bytes piece × Bytes plan) × LentBytes calls
 LentBytes (closing buffer ∷ calls) = LentBytes calls
 
 -- ---- the accepted years of a list, by the verdicts alone
@@ -51,7 +53,7 @@ judgedYear (accepted y rest) = y ∷ []
 
 -- the year that a call brings: none where it is refused, or a closing
 unfoldable pub broughtYear : Call → Ledger → List Year
-broughtYear (giving piece) l = judgedYear (yearPiece (dueOf l) piece)
+broughtYear (giving piece plan) l = judgedYear (under plan (λ p. yearPiece (dueOf p l)) piece)
 broughtYear (closing buffer) l = []
 
 unfoldable pub acceptedYears : List Call → Ledger → List Year
@@ -63,7 +65,7 @@ yearsAfter opening calls = acceptedYears calls (openCall opening .ledger)
 
 -- ---- the calls of a list that stand: its accepted year calls, those of number 0, in their order
 abbrev pub standingCall : Call → Answer → List Call
-standingCall (giving piece) answer = cond (eqb (answerNumber answer) 0) (giving piece ∷ []) []
+standingCall (giving piece plan) answer = cond (eqb (answerNumber answer) 0) (giving piece plan ∷ []) []
 standingCall (closing buffer) answer = []
 
 unfoldable pub standingCalls : List Call → Ledger → List Call

@@ -1,6 +1,7 @@
 -- Document 01, "Checked examples": the marked ones as one table, each beside what the document states, from the definitions that the contracts cite.
 -- To be believed. Assumes nothing.
 use Prim.Native.Nat.{ℕ, _+_, _*_}
+use mathlib.Core.Bool.{false}
 use mathlib.Core.Option.{none}
 use mathlib.Core.List.{List, [], _∷_, _++_, map}
 use lib.IntN.{ℤ, pos, negsuc}
@@ -42,13 +43,14 @@ caseA = record {
     operatingDays = 366;
     conversions = converting E E 99_000_000 (converting E NF 1_000_000 (replicate 144 0));
     beltConversions = replicate 144 0;
+    planned = false;
     activities = Fuel 1 100_000 ∷ [];
   } ∷ [];
 }
 
--- the whole reckoning of its bytes, with a buffer of 255 throughout and four bytes longer than the report: a zero that is not written shows
+-- the whole reckoning of its bytes, with no plan and a buffer of 255 throughout and four bytes longer than the report: a zero that is not written shows
 unfoldable pub bufferA : List ℕ
-bufferA = reckonBuffer (dossierBytes caseA) (replicate 100 255)
+bufferA = reckonBuffer (dossierBytes caseA) [] (replicate 100 255)
 
 -- its sheet, as the document has it
 abbrev sheetA : List ℕ

@@ -3,9 +3,12 @@
 -- To be believed. Assumes nothing.
 use Prim.Native.Nat.{ℕ}
 use mathlib.Core.Path.{_≡_}
-use mathlib.Core.List.{List}
+use mathlib.Core.Option.{Option}
+use mathlib.Core.List.{List, []}
 use lib.ListN.{length}
-use Rattle.dossier.specs.Causes.{causes, openingCauses, yearCauses, closingCauses, ZeroOr}
+use Rattle.dossier.specs.Causes.{planNotOfForm, causes, openingCauses, yearCauses, closingCauses, ZeroOr}
+use Rattle.dossier.specs.Plan.{Plan}
+use Rattle.dossier.specs.Records.{WellFormedPlan}
 use Rattle.wire.specs.Bytes.{Bytes}
 use Rattle.reckoner.specs.declared.Ledger.{Ledger}
 use Rattle.reckoner.specs.Ledger.{emptyLedger}
@@ -13,15 +16,18 @@ use Rattle.reckoner.specs.Calls.{answerNumber, openCall, yearCall, closeCall, c
 use Rattle.sheet.specs.Sheet.{refusalOf}
 use Rattle.printout.specs.Printout.{printout}
 
--- of any bytes, any ledger and any buffer; `yearsheet` lends a buffer for 20 years, 1,312 bytes, and prints of refused bytes the number alone
+-- of any bytes, any plan, any ledger and any buffer; 12 is "judged before dossier or piece" (#103), whatever they and the ledger are; `yearsheet` lends
+-- no plan and a buffer for 20 years, 1,312 bytes, and prints of refused bytes the number alone
 pub record RefusalsLeave : Type 0 where
   pub opening : (piece : List ℕ) → (answerNumber (openCall piece .answer) ≡ 0 → ⊥) → openCall piece .ledger ≡ emptyLedger
-  pub year : (l : Ledger) (piece : List ℕ) → (answerNumber (yearCall l piece .answer) ≡ 0 → ⊥) → yearCall l piece .ledger ≡ l
+  pub year : (l : Ledger) (piece plan : List ℕ) → (answerNumber (yearCall l piece plan .answer) ≡ 0 → ⊥) → yearCall l piece plan .ledger ≡ l
   pub close : (l : Ledger) (buffer : List ℕ) → (closeSays l (length buffer) .number ≡ 0 → ⊥) → closedBuffer l buffer ≡ buffer
   pub closing : (l : Ledger) (size : ℕ) → closeCall l size .ledger ≡ l
-  pub reckoning : (s buffer : List ℕ) → (reckonNumber s (length buffer) ≡ 0 → ⊥) → reckonBuffer s buffer ≡ buffer
+  pub reckoning : (s plan buffer : List ℕ) → (reckonNumber s plan (length buffer) ≡ 0 → ⊥) → reckonBuffer s plan buffer ≡ buffer
   pub openingNumber : (piece : List ℕ) → ZeroOr openingCauses (answerNumber (openCall piece .answer))
-  pub yearNumber : (l : Ledger) (piece : List ℕ) → ZeroOr yearCauses (answerNumber (yearCall l piece .answer))
+  pub yearNumber : (l : Ledger) (piece plan : List ℕ) → ZeroOr yearCauses (answerNumber (yearCall l piece plan .answer))
   pub closingNumber : (l : Ledger) (size : ℕ) → ZeroOr closingCauses (closeSays l size .number)
-  pub reckoningNumber : (s : List ℕ) (size : ℕ) → ZeroOr causes (reckonNumber s size)
-  pub printing : (s : List ℕ) → Bytes s → (reckonNumber s 1312 ≡ 0 → ⊥) → printout s ≡ refusalOf (reckonNumber s 1312)
+  pub reckoningNumber : (s plan : List ℕ) (size : ℕ) → ZeroOr causes (reckonNumber s plan size)
+  pub planFirst : (plan : List ℕ) → Bytes plan → ((p : Option Plan) → WellFormedPlan p plan → ⊥)
+      → ((l : Ledger) (piece : List ℕ) → answerNumber (yearCall l piece plan .answer) ≡ planNotOfForm) × ((s : List ℕ) (size : ℕ) → reckonNumber s plan size ≡ planNotOfForm)
+  pub printing : (s : List ℕ) → Bytes s → (reckonNumber s [] 1312 ≡ 0 → ⊥) → printout s ≡ refusalOf (reckonNumber s [] 1312)

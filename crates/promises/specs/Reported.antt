@@ -18,7 +18,7 @@ use Rattle.assurance.specs.Unrounded.{openedᶠ, afterYearsᶠ}
 use Rattle.assurance.specs.Assurance.{RegionAssured, TotalAssured}
 use Rattle.wire.specs.Signed.{figureAt}
 use Rattle.report.specs.Report.{eight}
-use Rattle.dossier.specs.Records.{Due}
+use Rattle.dossier.specs.Records.{Settled}
 
 -- "each year from its own tables": the figures of years one after the other, each over the areas that the projections before it left
 unfoldable pub yearsFigures : Terms → (project belt : Region) → List Year → List Figures
@@ -41,16 +41,16 @@ pub record RegionReported (y start : ℕ) (figure : ℤ) (region : Region) (unro
   pub decoded : figure ≡ pos (region .balance .0)
   pub assured : RegionAssured y start (region .areas) (region .balance .0) unrounded
 
--- the bytes of a closing after accepted years that followed an opening, for what the opening settled: the eight figures of each year from its own
+-- the bytes of a closing after accepted years that followed an opening, for what the opening settled (opened): the eight figures of each year from its own
 -- records; the total, the sum of credited, and its tonnes; the total against the unrounded one; the balances against the projected areas
-pub record Reported (due : Due) (years : List Year) (closed : List ℕ) : Type 0 where
+pub record Reported (opened : Settled) (years : List Year) (closed : List ℕ) : Type 0 where
   pub figures : (k j : ℕ) → k < length years → j < 8
-      → figureAt closed (64 * k + 8 * j) ≡ getD (eight (getD (yearsFigures (due .terms) (due .state .project) (due .state .belt) years) k noFigures)) j (pos 0)
-  pub total : figureAt closed (64 * length years) ≡ periodTotal (yearsFigures (due .terms) (due .state .project) (due .state .belt) years)
+      → figureAt closed (64 * k + 8 * j) ≡ getD (eight (getD (yearsFigures (opened .terms) (opened .state .project) (opened .state .belt) years) k noFigures)) j (pos 0)
+  pub total : figureAt closed (64 * length years) ≡ periodTotal (yearsFigures (opened .terms) (opened .state .project) (opened .state .belt) years)
   pub tonnes : figureAt closed (64 * length years + 8) ≡ pos (tonnesOf (figureAt closed (64 * length years)))
-  pub assured : TotalAssured (greatestIn (due .terms .stocks)) (length years) (recordCount years) (figureAt closed (64 * length years))
-      (afterYearsᶠ (due .terms) years (openedᶠ (due .state)) .total)
-  pub project : RegionReported (length years) (due .terms .start .0) (figureAt closed (64 * length years + 16))
-      (projectedYears (due .terms .matrix) years (due .state .project)) (afterYearsᶠ (due .terms) years (openedᶠ (due .state)) .project)
-  pub belt : RegionReported (length years) (due .terms .beltstart .0) (figureAt closed (64 * length years + 24))
-      (projectedYears (due .terms .matrix) years (due .state .belt)) (afterYearsᶠ (due .terms) years (openedᶠ (due .state)) .belt)
+  pub assured : TotalAssured (greatestIn (opened .terms .stocks)) (length years) (recordCount years) (figureAt closed (64 * length years))
+      (afterYearsᶠ (opened .terms) years (openedᶠ (opened .state)) .total)
+  pub project : RegionReported (length years) (opened .terms .start .0) (figureAt closed (64 * length years + 16))
+      (projectedYears (opened .terms .matrix) years (opened .state .project)) (afterYearsᶠ (opened .terms) years (openedᶠ (opened .state)) .project)
+  pub belt : RegionReported (length years) (opened .terms .beltstart .0) (figureAt closed (64 * length years + 24))
+      (projectedYears (opened .terms .matrix) years (opened .state .belt)) (afterYearsᶠ (opened .terms) years (openedᶠ (opened .state)) .belt)

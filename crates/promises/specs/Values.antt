@@ -17,7 +17,8 @@ pub record Told (years : ℕ) (says : Said) (buffer : List ℕ) : Type 0 where
   pub refused : (says .number ≡ 0 → ⊥) → says .values ≡ []
   pub decoded : (i : ℕ) → i < length (says .values) → figureAt buffer (8 * i) ≡ getD (says .values) i (pos 0)
 
--- of any ledger that the calls handed back, of any bytes, and of any buffer
+-- of any ledger that the calls handed back, of any bytes, any plan and any buffer
 pub record ValuesTold : Type 0 where
   pub close : {l : Ledger} → HandedBack l → (buffer : List ℕ) → Told (l .given) (closeSays l (length buffer)) (closedBuffer l buffer)
-  pub reckoning : (s : List ℕ) → Bytes s → (buffer : List ℕ) → Told (dossierCall s .ledger .given) (reckonSays s (length buffer)) (reckonBuffer s buffer)
+  pub reckoning : (s plan : List ℕ) → Bytes s → Bytes plan → (buffer : List ℕ)
+      → Told (dossierCall s plan .ledger .given) (reckonSays s plan (length buffer)) (reckonBuffer s plan buffer)

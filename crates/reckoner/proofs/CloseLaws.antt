@@ -36,12 +36,12 @@ module _ (l : Ledger) (size n : ℕ) (e : n ≡ closeSays l size .number) where
   close-yes f = rw (le-ltb size (64 * l .given + 32) (close-zero l size .0 (sym e ∙ f)))
 
 -- ---- the whole reckoning from the dossier's ledger
-module _ (s buffer : List ℕ) (r : Step) (e : r ≡ dossierCall s) where
-  pub reckon-no : (n : ℕ) → r .answer ≡ Answer.Refused n → (n ≡ reckonNumber s (length buffer)) × (buffer ≡ reckonBuffer s buffer)
+module _ (s plan buffer : List ℕ) (r : Step) (e : r ≡ dossierCall s plan) where
+  pub reckon-no : (n : ℕ) → r .answer ≡ Answer.Refused n → (n ≡ reckonNumber s plan (length buffer)) × (buffer ≡ reckonBuffer s plan buffer)
   unfolding reckonSays reckonBuffer
   reckon-no n f = rw (reckonNumber, ← e, f) (refl, refl)
 
   pub reckon-yes : r .answer ≡ Answer.Accepted → (n : ℕ) (after : List ℕ) → (n ≡ closeSays (r .ledger) (length buffer) .number) × (after ≡ closedBuffer (r .ledger) buffer)
-      → (n ≡ reckonNumber s (length buffer)) × (after ≡ reckonBuffer s buffer)
+      → (n ≡ reckonNumber s plan (length buffer)) × (after ≡ reckonBuffer s plan buffer)
   unfolding reckonSays reckonBuffer
   reckon-yes f n after h = rw (reckonNumber, ← e, f) h

@@ -28,6 +28,7 @@ use Rattle.figures.specs.Year.{Year}
 use Rattle.figures.specs.Reckoning.{yearFigures, afterFigures, afterYear}
 use Rattle.figures.proofs.FiguresLaws.{FiguresSmall}
 use Rattle.wire.specs.Bytes.{Bytes, total}
+use Rattle.dossier.specs.Plan.{Plan, PlanLent}
 use Rattle.dossier.specs.Records.{
   StocksFiled,
   Opening,
@@ -39,7 +40,7 @@ use Rattle.dossier.specs.Records.{
   stateOf,
   emptyTerms,
   emptyState,
-  settled,
+  firstDue,
   next,
   YearInRange,
   YearsInRange,
@@ -50,6 +51,7 @@ use Rattle.dossier.specs.Claims.{DueInRange}
 use Rattle.dossier.specs.Reader.{Judged, refused, accepted}
 use Rattle.dossier.specs.Judging.{dossier, openingPiece, yearPiece}
 use Rattle.dossier.proofs.WellFormed.{dossier-accepted, opening-accepted, year-accepted}
+use Rattle.dossier.proofs.UnderLaws.{under-either}
 use Rattle.reckoning.specs.Step.{SmallState}
 use Rattle.reckoner.specs.declared.Ledger.{Ledger}
 use Rattle.reckoner.specs.Ledger.{newLedger, emptyLedger, openedLedger, dueOf, givenYear, givenYears, ledgerOf}
@@ -74,9 +76,9 @@ pub record LedgerKept (l : Ledger) : Type 0 where
 pub state-kept : (l : Ledger) → LedgerKept l → SmallState (l .state)
 state-kept l k = record { year = omega arith; project = omega (arith, k .project); belt = omega (arith, k .belt); total = omega (arith, k .total, k .count) }
 
-pub due-kept : (l : Ledger) → LedgerKept l → DueInRange (dueOf l)
+pub due-kept : (plan : Option Plan) → PlanLent plan → (l : Ledger) → LedgerKept l → DueInRange (dueOf plan l)
 unfolding dueOf
-due-kept l k = record { year = omega arith; start = k .project .small; beltstart = k .belt .small }
+due-kept plan lent l k = record { year = omega arith; start = k .project .small; beltstart = k .belt .small; plan = lent }
 
 -- ---- the empty ledger
 zero-row : (i : ℕ) → i < classes → sum classes (entry (replicate 144 0) i) ≡ 0
@@ -131,9 +133,9 @@ opened-kept o h = record {
 }
 
 -- ---- a year given
-pub given-kept : (l : Ledger) → LedgerKept l → (y : Year) → YearInRange (dueOf l) y → LedgerKept (givenYear y l)
+pub given-kept : (plan : Option Plan) → PlanLent plan → (l : Ledger) → LedgerKept l → (y : Year) → YearInRange (dueOf plan l) y → LedgerKept (givenYear y l)
 unfolding givenYear afterYear afterFigures dueOf
-given-kept l k y h = record {
+given-kept plan lent l k y h = record {
   count = omega (arith, k .count, h .left);
   years = omega (arith, k .years, h .left);
   since = omega (arith, k .since);
@@ -151,17 +153,26 @@ given-kept l k y h = record {
     f = yearFigures (l .terms) y (l .state .project) (l .state .belt)
 
     small : FiguresSmall f
-    small = figures-range (l .terms) (k .stocks) (k .rows) (dueOf l) (due-kept l k) y h (l .state .project) (l .state .belt) (omega (arith, k .project)) (omega (arith, k .belt))
+    small = figures-range (l .terms) (k .stocks) (k .rows) (dueOf plan l) (due-kept plan lent l k) y h (l .state .project) (l .state .belt) (omega (arith, k .project)) (omega (arith, k .belt))
 
     go : (i : ℕ) → i < l .given + 1 → (b : Bool) → eqb i (l .given) ≡ b → FiguresSmall (getD (set (l .figures) (l .given) f) i noFigures)
     go i g true e = rw (eqb-true i (l .given) e, getD-set-same (l .figures) (l .given) f noFigures (omega (arith, k .count, h .left, k .twenty))) small
     go i g false e = rw (getD-set-other (l .figures) (l .given) i f noFigures (eqb-false i (l .given) e)) (k .figures i (omega (arith, eqb-false i (l .given) e)))
 
--- years given one after the other, each judged against what is due by then
-pub years-kept : (l : Ledger) → LedgerKept l → (ys : List Year) → YearsInRange (dueOf l) ys → LedgerKept (givenYears ys l)
+-- years given one after the other, each in range for what is due by then, under a plan of its own
+abbrev pub YearsTaken : Ledger → List Year → Type 0
+YearsTaken l [] = Unit {0}
+YearsTaken l (y ∷ ys) = ((p : Option Plan) × PlanLent p × YearInRange (dueOf p l) y) × YearsTaken (givenYear y l) ys
+
+pub years-kept : (l : Ledger) → LedgerKept l → (ys : List Year) → YearsTaken l ys → LedgerKept (givenYears ys l)
 unfolding givenYears
 years-kept l k [] h = k
-years-kept l k (y ∷ ys) h = years-kept (givenYear y l) (given-kept l k y (h .0)) ys (unfold givenYear dueOf next in h .1)
+years-kept l k (y ∷ ys) ((p, lent, h), rest) = years-kept (givenYear y l) (given-kept p lent l k y h) ys rest
+
+-- all under the same
+pub under-one : (p : Option Plan) → PlanLent p → (l : Ledger) (ys : List Year) → YearsInRange (dueOf p l) ys → YearsTaken l ys
+under-one p lent l [] h = tt
+under-one p lent l (y ∷ ys) h = ((p, lent, h .0), under-one p lent (givenYear y l) ys (unfold givenYear dueOf next in h .1))
 
 -- ---- the calls
 -- an opening hands back the empty ledger, or that of an opening in range
@@ -176,27 +187,24 @@ open-either P empty of piece b = go (openingPiece piece) refl
 pub open-kept : (piece : List ℕ) → Bytes piece → LedgerKept (openCall piece .ledger)
 open-kept = open-either LedgerKept empty-kept opened-kept
 
-pub year-kept : (l : Ledger) → LedgerKept l → (piece : List ℕ) → Bytes piece → LedgerKept (yearCall l piece .ledger)
+pub year-kept : (l : Ledger) → LedgerKept l → (piece plan : List ℕ) → Bytes piece → Bytes plan → LedgerKept (yearCall l piece plan .ledger)
 unfolding yearCall
-year-kept l k piece b = go (yearPiece (dueOf l) piece) refl
-  where
-    go : (j : Judged Year) → yearPiece (dueOf l) piece ≡ j → LedgerKept (yearJudged l j .ledger)
-    go (refused n) e = k
-    go (accepted y rest) e = given-kept l k y (year-accepted (dueOf l) (due-kept l k) .sound piece b y rest e .0)
+year-kept l k piece plan b bp = under-either (λ p. yearPiece (dueOf p l)) piece plan (λ j. LedgerKept (yearJudged l j .ledger)) bp (λ n. k)
+    (λ p lent y rest e. given-kept p lent l k y (year-accepted (dueOf p l) (due-kept p lent l k) .sound piece b y rest e .0))
 
-pub dossier-kept : (s : List ℕ) → Bytes s → LedgerKept (dossierCall s .ledger)
+pub dossier-kept : (s plan : List ℕ) → Bytes s → Bytes plan → LedgerKept (dossierCall s plan .ledger)
 unfolding dossierCall
-dossier-kept s b = go (dossier s) refl
+dossier-kept s plan b bp = under-either dossier s plan (λ j. LedgerKept (dossierJudged j .ledger)) bp (λ n. empty-kept)
+    (λ p lent d rest e. of p lent d (dossier-accepted p lent .sound s b d rest e .0))
   where
-    of : (d : Dossier) → DossierInRange d → LedgerKept (ledgerOf d)
-    of d h = unfold ledgerOf in years-kept (openedLedger (d .opening)) (opened-kept (d .opening) (h .opening)) (d .years) (unfold openedLedger newLedger dueOf settled in h .years)
-
-    go : (j : Judged Dossier) → dossier s ≡ j → LedgerKept (dossierJudged j .ledger)
-    go (refused n) e = empty-kept
-    go (accepted d rest) e = of d (dossier-accepted .sound s b d rest e .0)
+    of : (p : Option Plan) → PlanLent p → (d : Dossier) → DossierInRange p d → LedgerKept (ledgerOf d)
+    of p lent d h =
+        unfold ledgerOf in
+        years-kept (openedLedger (d .opening)) (opened-kept (d .opening) (h .opening)) (d .years)
+        (under-one p lent (openedLedger (d .opening)) (d .years) (unfold openedLedger newLedger dueOf firstDue in h .years))
 
 -- every ledger that the calls hand back
 pub handed-kept : {l : Ledger} → HandedBack l → LedgerKept l
 handed-kept (opened piece b) = open-kept piece b
-handed-kept (given {l} h piece b) = year-kept l (handed-kept h) piece b
-handed-kept (whole s b) = dossier-kept s b
+handed-kept (given {l} h piece plan b bp) = year-kept l (handed-kept h) piece plan b bp
+handed-kept (whole s plan b bp) = dossier-kept s plan b bp

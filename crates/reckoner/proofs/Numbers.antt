@@ -4,6 +4,7 @@ use Prim.Native.Nat.{ℕ, _+_, _*_, _≤_, _<_}
 use mathlib.Core.Path.{_≡_, refl, _∙_, ap, sym}
 use mathlib.Core.Bool.{Bool, true, false, cond}
 use mathlib.Core.Logic.{_↔_, inl, inr}
+use mathlib.Core.Option.{Option}
 use mathlib.Core.List.{List, [], _∷_}
 use native.Mathlib.Omega.{arith}
 use borrow.Author.Tests.{lt-ltb}
@@ -11,14 +12,18 @@ use lib.ListN.{length, take}
 use Rattle.wire.specs.Bytes.{Bytes}
 use Rattle.figures.specs.Year.{Year}
 use Rattle.figures.specs.Reckoning.{afterFigures, afterYear}
-use Rattle.dossier.specs.Records.{stateOf, Dossier, DossierInRange, dossierBytes, Opening}
+use Rattle.dossier.specs.Plan.{Plan}
+use Rattle.dossier.specs.Records.{stateOf, Dossier, DossierInRange, dossierBytes, Opening, WellFormedPlan}
+use Rattle.dossier.specs.Claims.{numberOf}
 use Rattle.dossier.specs.Causes.{bufferTooShort, causes, openingCauses, yearCauses, closingCauses, _∈_, ZeroOr}
 use Rattle.dossier.specs.Reader.{Judged, refused, accepted}
 use Rattle.dossier.specs.Judging.{dossier, openingPiece, yearPiece}
+use Rattle.dossier.specs.JudgingPlan.{lentPlan, under}
 use Rattle.dossier.proofs.CauseLaws.{listed, positive, dossierCauses, dossier-part}
-use Rattle.dossier.proofs.Causes.{dossier-causes, openingPiece-causes, yearPiece-causes}
-use Rattle.dossier.proofs.WellFormed.{dossier-accepted}
-use Rattle.dossier.proofs.FirstBytes.{first-bytes-settle}
+use Rattle.dossier.proofs.Causes.{openingPiece-causes}
+use Rattle.dossier.proofs.WellFormed.{dossier-accepted, plan-accepted}
+use Rattle.dossier.proofs.UnderLaws.{under-accepted, yearPiece-under-causes, dossier-under-causes, under-first-bytes}
+use Rattle.dossier.proofs.Numbers.{under-zero}
 use Rattle.reckoner.specs.declared.Ledger.{Ledger}
 use Rattle.reckoner.specs.declared.Answer.{Answer}
 use Rattle.reckoner.specs.Ledger.{newLedger, openedLedger, givenYear, givenYears, ledgerOf, firstYear, dueOf, report}
@@ -31,8 +36,8 @@ unfolding givenYears
 given-count [] l = omega arith
 given-count (y ∷ ys) l = given-count ys (givenYear y l) ∙ unfold givenYear in omega arith
 
-pub given-all : (d : Dossier) → DossierInRange d → ledgerOf d .given ≡ d .opening .head .years
-given-all d h = let c = given-count (d .years) (openedLedger (d .opening)) in unfold ledgerOf openedLedger newLedger in omega (arith, c, h .count)
+pub given-all : (plan : Option Plan) (d : Dossier) → DossierInRange plan d → ledgerOf d .given ≡ d .opening .head .years
+given-all plan d h = let c = given-count (d .years) (openedLedger (d .opening)) in unfold ledgerOf openedLedger newLedger in omega (arith, c, h .count)
 
 -- and the year that is due moves on with each
 given-year : (ys : List Year) (l : Ledger) → givenYears ys l .state .year ≡ l .state .year + length ys
@@ -40,43 +45,49 @@ unfolding givenYears
 given-year [] l = omega arith
 given-year (y ∷ ys) l = given-year ys (givenYear y l) ∙ unfold givenYear afterYear afterFigures in omega arith
 
-pub first-is : (d : Dossier) → DossierInRange d → firstYear (ledgerOf d) ≡ d .opening .head .firstYear
-first-is d h =
+pub first-is : (plan : Option Plan) (d : Dossier) → DossierInRange plan d → firstYear (ledgerOf d) ≡ d .opening .head .firstYear
+first-is plan d h =
     let c = given-count (d .years) (openedLedger (d .opening)) in
     let y = given-year (d .years) (openedLedger (d .opening)) in
     unfold ledgerOf openedLedger newLedger stateOf in omega (arith, c, y)
 
--- "10 comes last": the dossier's own number counts before the buffer's
-pub number-refused : (s : List ℕ) (size n : ℕ) → dossier s ≡ refused n → reckonNumber s size ≡ n
+-- "10 comes last": the plan's and the dossier's own number counts before the buffer's
+pub number-refused : (s planned : List ℕ) (size n : ℕ) → under planned dossier s ≡ refused n → reckonNumber s planned size ≡ n
 unfolding reckonSays dossierCall
-number-refused s size n e = rw (reckonNumber, e)
+number-refused s planned size n e = rw (reckonNumber, e)
 
-module _ (s : List ℕ) (size : ℕ) (d : Dossier) (rest : List ℕ) (e : dossier s ≡ accepted d rest) where
-  number-accepted : reckonNumber s size ≡ closeSays (ledgerOf d) size .number
+module _ (s planned : List ℕ) (size : ℕ) (d : Dossier) (rest : List ℕ) (e : under planned dossier s ≡ accepted d rest) where
+  number-accepted : reckonNumber s planned size ≡ closeSays (ledgerOf d) size .number
   unfolding reckonSays dossierCall
   number-accepted = rw (reckonNumber, e)
 
-  pub number-short : size < 64 * ledgerOf d .given + 32 → reckonNumber s size ≡ bufferTooShort
+  pub number-short : size < 64 * ledgerOf d .given + 32 → reckonNumber s planned size ≡ bufferTooShort
   number-short h = number-accepted ∙ unfold closeCall in simp (lt-ltb _ _ h)
 
-  pub number-enough : 64 * ledgerOf d .given + 32 ≤ size → reckonNumber s size ≡ 0
+  pub number-enough : 64 * ledgerOf d .given + 32 ≤ size → reckonNumber s planned size ≡ 0
   number-enough h = number-accepted ∙ close-zero (ledgerOf d) size .1 h
 
--- 0 just where the dossier is well formed and the buffer holds 64 × n + 32 bytes
-pub number-zero : (s : List ℕ) → Bytes s → (size : ℕ)
-    → ((d : Dossier) × DossierInRange d × (s ≡ dossierBytes d) × (64 * d .opening .head .years + 32 ≤ size)) ↔ (reckonNumber s size ≡ 0)
-number-zero s b size = (there, back (dossier s) refl)
-  where
-    there : (d : Dossier) × DossierInRange d × (s ≡ dossierBytes d) × (64 * d .opening .head .years + 32 ≤ size) → reckonNumber s size ≡ 0
-    there w =
-        let e : dossier s ≡ accepted (w .0) [] = ap dossier (w .2) ∙ dossier-accepted .complete (w .0) (w .1) in
-        number-enough s size (w .0) [] e (omega (arith, given-all (w .0) (w .1), w .3))
+-- 0 just where the plan is well formed, the dossier is under it, and the buffer holds 64 × n + 32 bytes
+abbrev pub Reckoned : (s planned : List ℕ) (size : ℕ) → Type 0
+Reckoned s planned size = (p : Option Plan) × WellFormedPlan p planned × ((d : Dossier) × DossierInRange p d × (s ≡ dossierBytes d) × (64 * d .opening .head .years + 32 ≤ size))
 
-    back : (j : Judged Dossier) → dossier s ≡ j → reckonNumber s size ≡ 0 → (d : Dossier) × DossierInRange d × (s ≡ dossierBytes d) × (64 * d .opening .head .years + 32 ≤ size)
-    back (refused n) e z = let c = positive dossierCauses tt n (dossier-causes s n e) in let y = number-refused s size n e in absurd (omega arith)
+pub number-zero : (s planned : List ℕ) → Bytes s → Bytes planned → (size : ℕ) → Reckoned s planned size ↔ (reckonNumber s planned size ≡ 0)
+number-zero s planned b bp size = (there, back (under planned dossier s) refl)
+  where
+    judged-as : (p : Option Plan) → WellFormedPlan p planned → (d : Dossier) → DossierInRange p d → s ≡ dossierBytes d → under planned dossier s ≡ accepted d []
+    judged-as p w d h es =
+        let plan-is : lentPlan planned ≡ accepted p [] = ap lentPlan (w .1) ∙ plan-accepted .complete p (w .0) in
+        under-accepted dossier s planned p [] plan-is ∙ ap (dossier p) es ∙ dossier-accepted p (w .0) .complete d h
+
+    there : Reckoned s planned size → reckonNumber s planned size ≡ 0
+    there (p, w, (d, h, es, enough)) = number-enough s planned size d [] (judged-as p w d h es) (omega (arith, given-all p d h, enough))
+
+    back : (j : Judged Dossier) → under planned dossier s ≡ j → reckonNumber s planned size ≡ 0 → Reckoned s planned size
+    back (refused n) e z = let c = positive dossierCauses tt n (dossier-under-causes planned s n e) in let y = number-refused s planned size n e in absurd (omega arith)
     back (accepted d t) e z =
-        let w = dossier-accepted .sound s b d t e in
-        (d, w .0, w .1, omega (arith, given-all d (w .0), close-zero (ledgerOf d) size .0 (sym (number-accepted s size d t e) ∙ z)))
+        let (p, w, (f, h, es)) = under-zero dossier-accepted dossierCauses tt dossier-under-causes s planned b bp .1 (ap numberOf e) in
+        let enough = close-zero (ledgerOf f) size .0 (sym (number-accepted s planned size f [] (judged-as p w f h es)) ∙ z) in
+        (p, w, (f, h, es, omega (arith, given-all p f h, enough)))
 
 -- ---- the numbers of each call: 0, or one of its own causes
 pub open-numbers : (piece : List ℕ) → ZeroOr openingCauses (answerNumber (openCall piece .answer))
@@ -87,12 +98,12 @@ open-numbers piece = go (openingPiece piece) refl
     go (refused n) e = inr (openingPiece-causes piece n e)
     go (accepted o rest) e = inl refl
 
-pub year-numbers : (l : Ledger) (piece : List ℕ) → ZeroOr yearCauses (answerNumber (yearCall l piece .answer))
+pub year-numbers : (l : Ledger) (piece plan : List ℕ) → ZeroOr yearCauses (answerNumber (yearCall l piece plan .answer))
 unfolding yearCall
-year-numbers l piece = go (yearPiece (dueOf l) piece) refl
+year-numbers l piece plan = go (under plan (λ p. yearPiece (dueOf p l)) piece) refl
   where
-    go : (j : Judged Year) → yearPiece (dueOf l) piece ≡ j → ZeroOr yearCauses (answerNumber (yearJudged l j .answer))
-    go (refused n) e = inr (yearPiece-causes (dueOf l) piece n e)
+    go : (j : Judged Year) → under plan (λ p. yearPiece (dueOf p l)) piece ≡ j → ZeroOr yearCauses (answerNumber (yearJudged l j .answer))
+    go (refused n) e = inr (yearPiece-under-causes (λ p. dueOf p l) plan piece n e)
     go (accepted y rest) e = inl refl
 
 -- of a closing, where its cause is allowed
@@ -107,14 +118,14 @@ closed-number allowed h l size = go (tooShort (l .given) size)
 pub close-numbers : (l : Ledger) (size : ℕ) → ZeroOr closingCauses (closeSays l size .number)
 close-numbers = closed-number closingCauses (listed bufferTooShort closingCauses tt)
 
-pub reckon-numbers : (s : List ℕ) (size : ℕ) → ZeroOr causes (reckonNumber s size)
-reckon-numbers s size = go (dossier s) refl
+pub reckon-numbers : (s planned : List ℕ) (size : ℕ) → ZeroOr causes (reckonNumber s planned size)
+reckon-numbers s planned size = go (under planned dossier s) refl
   where
-    go : (j : Judged Dossier) → dossier s ≡ j → ZeroOr causes (reckonNumber s size)
-    go (refused n) e = rw (number-refused s size n e) (inr (dossier-part n (dossier-causes s n e)))
-    go (accepted d t) e = rw (number-accepted s size d t e) (closed-number causes (listed bufferTooShort causes tt) (ledgerOf d) size)
+    go : (j : Judged Dossier) → under planned dossier s ≡ j → ZeroOr causes (reckonNumber s planned size)
+    go (refused n) e = rw (number-refused s planned size n e) (inr (dossier-part n (dossier-under-causes planned s n e)))
+    go (accepted d t) e = rw (number-accepted s planned size d t e) (closed-number causes (listed bufferTooShort causes tt) (ledgerOf d) size)
 
--- the first 65,536 bytes settle it, for any buffer
-pub same-number : (s : List ℕ) → Bytes s → (size : ℕ) → reckonNumber (take 65536 s) size ≡ reckonNumber s size
+-- the first 65,536 bytes settle it, for any plan and any buffer
+pub same-number : (s planned : List ℕ) → Bytes s → Bytes planned → (size : ℕ) → reckonNumber (take 65536 s) planned size ≡ reckonNumber s planned size
 unfolding reckonSays dossierCall
-same-number s bs size = rw (reckonNumber, first-bytes-settle s bs)
+same-number s planned bs bp size = rw (reckonNumber, under-first-bytes planned s bp bs)

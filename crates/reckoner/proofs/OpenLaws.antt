@@ -9,7 +9,7 @@ use lib.ListN.{length, drop}
 use Rattle.wire.specs.Bytes.{Bytes}
 use Rattle.figures.specs.declared.Terms.{Terms}
 use Rattle.figures.specs.declared.State.{State}
-use Rattle.dossier.specs.Records.{Opening, OpeningInRange, openingBytes, Due, settled}
+use Rattle.dossier.specs.Records.{Opening, OpeningInRange, openingBytes, Settled, settled}
 use Rattle.dossier.specs.Reader.{_>>=_, _>>_, mark, begin}
 use Rattle.dossier.specs.JudgingRecords.{head}
 use Rattle.dossier.specs.Judging.{opening, openingPiece}
@@ -35,9 +35,9 @@ pub empty-handed : HandedBack emptyLedger
 empty-handed = rw no-bytes at (opened [] (λ k. lit< tt))
 
 -- the ledger of what an opening settles
-due-ledger : (terms : Terms) (state : State) (o : Opening) → _≡_ {A = Due} (record { terms = terms; state = state }) (settled o) → newLedger terms state ≡ openedLedger o
+settled-ledger : (terms : Terms) (state : State) (o : Opening) → _≡_ {A = Settled} (record { terms = terms; state = state }) (settled o) → newLedger terms state ≡ openedLedger o
 unfolding openedLedger settled
-due-ledger terms state o e = ap (λ (d : Due). newLedger (d .terms) (d .state)) e
+settled-ledger terms state o e = ap (λ (d : Settled). newLedger (d .terms) (d .state)) e
 
 -- ---- an opening piece
 module _ (s : List ℕ) (r : Opened) (says : openedSays s r ≡ settledPiece s) where
@@ -49,7 +49,7 @@ module _ (s : List ℕ) (r : Opened) (says : openedSays s r ≡ settledPiece s) 
   unfolding openCall settledPiece _>>=_
   open-yes next e l el =
       let m = made-yes (openingPiece s) settled _ (drop next s) (rw e at says) in
-      rw (el, due-ledger (r .terms) (r .state) (m .value) (m .made)) (ap openJudged (m .judged))
+      rw (el, settled-ledger (r .terms) (r .state) (m .value) (m .made)) (ap openJudged (m .judged))
 
 -- an opening piece of records in range is opened
 opened-again : (o : Opening) → OpeningInRange o → openCall (openingBytes o) .ledger ≡ openedLedger o
@@ -65,7 +65,7 @@ module _ (s : List ℕ) (r : Opened) (says : openedSays s r ≡ settledOpening s
   inside i = rw e at i
 
   pub read-ledger : newLedger (r .terms) (r .state) ≡ openedLedger (read .value)
-  read-ledger = due-ledger (r .terms) (r .state) (read .value) (read .made)
+  read-ledger = settled-ledger (r .terms) (r .state) (read .value) (read .made)
 
   -- an opening piece with the same records makes the same ledger
   pub newly-opened : Bytes s → (l : Ledger) → l ≡ newLedger (r .terms) (r .state) → HandedBack l

@@ -22,6 +22,7 @@ use Rattle.figures.proofs.CountedLaws.{small-counted}
 use Rattle.figures.proofs.FiguresLaws.{FiguresSmall, figures-small, projected-small, calendar-days, reference-small, emissions-small, monitored-small}
 use Rattle.dossier.specs.Records.{Due, ConversionsInRange, YearInRange}
 use Rattle.dossier.specs.Claims.{DueInRange}
+use Rattle.dossier.proofs.PlanLaws.{taken-range}
 use Rattle.wire.proofs.NumbersLaws.{total-entries}
 
 -- by stocks of at most the greatest, and a matrix whose rows sum to at most 1,000,000
@@ -41,9 +42,11 @@ module _ (t : Terms) (stocks : (i : ℕ) → getD (t .stocks) i 0 ≤ greatestSt
 
   pub figures-range : (project belt : Region) → SmallRegion project → SmallRegion belt → FiguresSmall (yearFigures t y project belt)
   unfolding yearFigures
-  figures-range project belt p b = figures-small _ _ _ _ _
+  figures-range project belt p b =
+      let taken = taken-range (due .plan) (settled .plan) (y .year) (y .planned) (y .activities) (h .records) in
+      figures-small _ _ _ _ _
       (reference-range project p)
       (table-range (due .terms .start .0) (y .conversions) (settled .start) (h .conversions))
-      (omega (arith, h .count, emissions-le (y .activities) (h .activities)))
+      (omega (arith, taken .0, emissions-le (y .activities) (taken .1)))
       (table-range (due .terms .beltstart .0) (y .beltConversions) (settled .beltstart) (h .beltConversions))
       (reference-range belt b)

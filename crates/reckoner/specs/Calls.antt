@@ -13,6 +13,7 @@ use Rattle.dossier.specs.Causes.{bufferTooShort}
 use Rattle.dossier.specs.Records.{Opening, Dossier}
 use Rattle.dossier.specs.Reader.{Judged, refused, accepted}
 use Rattle.dossier.specs.Judging.{dossier, openingPiece, yearPiece}
+use Rattle.dossier.specs.JudgingPlan.{under}
 use Rattle.reckoner.specs.declared.Ledger.{Ledger}
 use Rattle.reckoner.specs.declared.Answer.{Answer}
 use Rattle.reckoner.specs.declared.Step.{Step}
@@ -53,8 +54,9 @@ abbrev pub yearJudged : Ledger → Judged Year → Step
 yearJudged l (refused n) = record { ledger = l; answer = Answer.Refused n }
 yearJudged l (accepted y rest) = record { ledger = givenYear y l; answer = Answer.Accepted }
 
-unfoldable pub yearCall : Ledger → List ℕ → Step
-yearCall l piece = yearJudged l (yearPiece (dueOf l) piece)
+-- #103: the year is judged under the plan that the call is lent, and the plan before it
+unfoldable pub yearCall : Ledger → (piece plan : List ℕ) → Step
+yearCall l piece plan = yearJudged l (under plan (λ p. yearPiece (dueOf p l)) piece)
 
 -- "buffer under 64 × n + 32 bytes"
 abbrev pub tooShort : (n size : ℕ) → Bool
@@ -72,26 +74,26 @@ closeSays l size = said (closeCall l size .answer) (report l)
 unfoldable pub closedBuffer : Ledger → List ℕ → List ℕ
 closedBuffer l buffer = cond (tooShort (l .given) (length buffer)) buffer (written (report l) buffer)
 
--- a whole dossier opened and given its years: the ledger after its last year
+-- a whole dossier opened and given its years under the plan that is lent: the ledger after its last year
 abbrev pub dossierJudged : Judged Dossier → Step
 dossierJudged (refused n) = refusedOpening n
 dossierJudged (accepted d rest) = record { ledger = ledgerOf d; answer = Answer.Accepted }
 
-unfoldable pub dossierCall : List ℕ → Step
-dossierCall s = dossierJudged (dossier s)
+unfoldable pub dossierCall : (s plan : List ℕ) → Step
+dossierCall s plan = dossierJudged (under plan dossier s)
 
 -- "a ledger that these calls handed back"
 pub data HandedBack : Ledger → Type 0 where
   opened : (piece : List ℕ) → Bytes piece → HandedBack (openCall piece .ledger)
-  given : {l : Ledger} → HandedBack l → (piece : List ℕ) → Bytes piece → HandedBack (yearCall l piece .ledger)
-  whole : (s : List ℕ) → Bytes s → HandedBack (dossierCall s .ledger)
+  given : {l : Ledger} → HandedBack l → (piece plan : List ℕ) → Bytes piece → Bytes plan → HandedBack (yearCall l piece plan .ledger)
+  whole : (s plan : List ℕ) → Bytes s → Bytes plan → HandedBack (dossierCall s plan .ledger)
 
--- ---- the whole reckoning: the dossier's ledger closed. "10 comes last": only where the dossier is accepted
-unfoldable pub reckonSays : List ℕ → (size : ℕ) → Said
-reckonSays s size = answered (dossierCall s .answer) (λ n. said (Answer.Refused n) []) (closeSays (dossierCall s .ledger) size)
+-- ---- the whole reckoning: the dossier's ledger closed. "10 comes last": only where plan and dossier are accepted
+unfoldable pub reckonSays : (s plan : List ℕ) (size : ℕ) → Said
+reckonSays s plan size = answered (dossierCall s plan .answer) (λ n. said (Answer.Refused n) []) (closeSays (dossierCall s plan .ledger) size)
 
-abbrev pub reckonNumber : List ℕ → (size : ℕ) → ℕ
-reckonNumber s size = reckonSays s size .number
+abbrev pub reckonNumber : (s plan : List ℕ) (size : ℕ) → ℕ
+reckonNumber s plan size = reckonSays s plan size .number
 
-unfoldable pub reckonBuffer : List ℕ → List ℕ → List ℕ
-reckonBuffer s buffer = answered (dossierCall s .answer) (λ n. buffer) (closedBuffer (dossierCall s .ledger) buffer)
+unfoldable pub reckonBuffer : (s plan buffer : List ℕ) → List ℕ
+reckonBuffer s plan buffer = answered (dossierCall s plan .answer) (λ n. buffer) (closedBuffer (dossierCall s plan .ledger) buffer)

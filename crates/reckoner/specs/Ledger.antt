@@ -1,6 +1,7 @@
 -- Document 01, "Calls and sheet": the ledger, what an opening and a year make of it, and what closing reports.
 -- To be believed. Assumes nothing.
 use Prim.Native.Nat.{ℕ, _+_, _-_}
+use mathlib.Core.Option.{Option}
 use mathlib.Core.List.{List, [], _∷_}
 use lib.IntN.{ℤ}
 use lib.ListN.{set, replicate}
@@ -9,6 +10,7 @@ use Rattle.figures.specs.declared.State.{State}
 use Rattle.figures.specs.Figures.{noFigures}
 use Rattle.figures.specs.Year.{Year}
 use Rattle.figures.specs.Reckoning.{yearFigures, afterYear}
+use Rattle.dossier.specs.Plan.{Plan}
 use Rattle.dossier.specs.Records.{Opening, termsOf, stateOf, emptyTerms, emptyState, Due, Dossier}
 use Rattle.report.specs.Report.{reported}
 use Rattle.reckoner.specs.declared.Ledger.{Ledger}
@@ -25,9 +27,9 @@ emptyLedger = newLedger emptyTerms emptyState
 unfoldable pub openedLedger : Opening → Ledger
 openedLedger o = newLedger (termsOf o) (stateOf o)
 
--- what a year that it is given is judged against
-unfoldable pub dueOf : Ledger → Due
-dueOf l = record { terms = l .terms; state = l .state }
+-- what a year that it is given under a plan is judged against
+unfoldable pub dueOf : Option Plan → Ledger → Due
+dueOf plan l = record { terms = l .terms; state = l .state; plan = plan }
 
 -- a year given: the state after it, and its figures after those of the years before
 unfoldable pub givenYear : Year → Ledger → Ledger

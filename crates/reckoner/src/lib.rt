@@ -3,13 +3,18 @@ use figures::Figures;
 use figures::State;
 use figures::Terms;
 use opening::OpeningAnswer;
+use plans::PlanAnswer;
 use reckoning::StepAnswer;
 ghost use mathlib.Core.Path.{_≡_};
 ghost use Prim.Native.Nat.{_≤_, _<_};
 ghost use lib.ListN.{length, drop};
+ghost use mathlib.Core.List.{[]};
+ghost use Rattle.dossier.specs.JudgingPlan.{lentPlan};
+ghost use Rattle.plans.specs.declared.PlanAnswer.the-variants.{Read as PlanRead};
+ghost use Rattle.plans.specs.Answers.{PlanSaid};
 ghost use Rattle.reckoning.specs.Step.{stepInside};
 ghost use Rattle.reckoner.specs.Ledger.{newLedger, firstYear};
-ghost use Rattle.reckoner.specs.Parts.{reckonedSays, giveYears};
+ghost use Rattle.reckoner.specs.Parts.{lentAs, giveYears, reckonedSays};
 ghost use Rattle.reckoner.specs.Calls.{refusedOpening, openCall, yearCall, closeCall, closeSays, closedBuffer, dossierCall, HandedBack, reckonNumber, reckonBuffer};
 
 // A ledger: the years given, what its opening settled, the state that years change, and the figures of the years given.
@@ -81,10 +86,19 @@ struct Reckoned {
     answer: StepAnswer,
 }
 
-// Gives a ledger the next years of the bytes from a place on, count of them, one after the other.
-fn give_years(s: &[u8], from: usize, mut ledger: Ledger, count: u64) -> Reckoned
+// Gives a ledger the next years of the bytes from a place on, count of them, one after the other, under a plan of so many years at these places.
+fn give_years<'a>(
+    s: &'a [u8],
+    from: usize,
+    mut ledger: Ledger,
+    count: u64,
+    plan: &'a [u8],
+    places: &[usize; 20],
+    planned: usize,
+) -> Reckoned
     requires { ⌜ (from ≤ length (now s)) × HandedBack ledger ⌝ }
-    ensures { λ r. ⌜ reckonedSays (now (s .entry)) r ≡ giveYears count ledger (drop from (now (s .entry))) ⌝ }
+    requires { ⌜ PlanSaid (lentPlan (now plan)) (now plan) (now places) (PlanRead planned) ⌝ }
+    ensures { λ r. ⌜ reckonedSays (now (s .entry)) r ≡ giveYears (lentAs (now (plan .entry))) count ledger (drop from (now (s .entry))) ⌝ }
     ensures { λ r. ⌜ stepInside (now (s .entry)) (r .answer) ⌝ }
 {
     let terms = ledger.terms;
@@ -97,7 +111,19 @@ fn give_years(s: &[u8], from: usize, mut ledger: Ledger, count: u64) -> Reckoned
     let mut k: u64 = 0;
     while k < count {
         let state = ledger.state;
-        let stepped = reckoning::step(s, at, state, start, belt, &terms.matrix, &factors, &counted);
+        let found = plans::find(plan, places, planned, state.year);
+        let stepped = reckoning::step(
+            s,
+            at,
+            plan,
+            found,
+            state,
+            start,
+            belt,
+            &terms.matrix,
+            &factors,
+            &counted,
+        );
         let answer = stepped.answer;
         let advanced = stepped.advanced;
         match answer {
@@ -125,6 +151,75 @@ fn give_years(s: &[u8], from: usize, mut ledger: Ledger, count: u64) -> Reckoned
     }
 }
 
+// A dossier's ledger, under a plan of so many years at these places: opened, given all its years, and EN after them; an empty one where that is refused.
+fn give_dossier<'a>(dossier: &'a [u8], plan: &'a [u8], places: &[usize; 20], planned: usize) -> Step
+    requires { ⌜ PlanSaid (lentPlan (now plan)) (now plan) (now places) (PlanRead planned) ⌝ }
+    ensures { λ r. ⌜ r ≡ dossierCall (now (dossier .entry)) (now (plan .entry)) ⌝ }
+{
+    let opened = opening::read_opening(dossier);
+    let answer = opened.answer;
+    let terms = opened.terms;
+    let state = opened.state;
+    match answer {
+        OpeningAnswer::Refused(n) => refused_opening(n),
+        OpeningAnswer::Read(next) => {
+            let ledger = new_ledger(terms, state);
+            let reckoned = give_years(dossier, next, ledger, state.left, plan, places, planned);
+            let answer = reckoned.answer;
+            let ledger = reckoned.ledger;
+            match answer {
+                StepAnswer::Refused(n) => refused_opening(n),
+                StepAnswer::Next(next) => {
+                    let fault = years::read_end(dossier, next);
+                    if fault != 0 {
+                        return refused_opening(fault);
+                    }
+                    Step {
+                        ledger,
+                        answer: Answer::Accepted,
+                    }
+                }
+            }
+        }
+    }
+}
+
+// A ledger given the one year of a piece, under a plan of so many years at these places; the same ledger where that is refused.
+fn give_piece<'a>(
+    ledger: Ledger,
+    piece: &'a [u8],
+    plan: &'a [u8],
+    places: &[usize; 20],
+    planned: usize,
+) -> Step
+    requires { ⌜ HandedBack ledger ⌝ }
+    requires { ⌜ PlanSaid (lentPlan (now plan)) (now plan) (now places) (PlanRead planned) ⌝ }
+    ensures { λ r. ⌜ r ≡ yearCall ledger (now (piece .entry)) (now (plan .entry)) ⌝ }
+{
+    let reckoned = give_years(piece, 0, ledger, 1, plan, places, planned);
+    let answer = reckoned.answer;
+    let given = reckoned.ledger;
+    match answer {
+        StepAnswer::Refused(n) => Step {
+            ledger,
+            answer: Answer::Refused(n),
+        },
+        StepAnswer::Next(next) => {
+            let fault = cursor::end_of_piece(piece, next);
+            if fault != 0 {
+                return Step {
+                    ledger,
+                    answer: Answer::Refused(fault),
+                };
+            }
+            Step {
+                ledger: given,
+                answer: Answer::Accepted,
+            }
+        }
+    }
+}
+
 impl Ledger {
     // Opened from HD to DA, or to MP under Option 2; an empty ledger where that is refused.
     pub fn open(piece: &[u8]) -> Step
@@ -144,33 +239,19 @@ impl Ledger {
         }
     }
 
-    // Given one year, YR to its last activity record; the same ledger where that is refused.
-    pub fn year(self, piece: &[u8]) -> Step
+    // Given one year, YR to its last activity record or PL, under the plan that is lent; the same ledger where that is refused.
+    pub fn year<'a>(self, piece: &'a [u8], plan: &'a [u8]) -> Step
         requires { ⌜ HandedBack self ⌝ }
-        ensures { λ r. ⌜ r ≡ yearCall self (now (piece .entry)) ⌝ }
+        ensures { λ r. ⌜ r ≡ yearCall self (now (piece .entry)) (now (plan .entry)) ⌝ }
         ensures { λ r. ⌜ HandedBack (r .ledger) ⌝ }
     {
-        let reckoned = give_years(piece, 0, self, 1);
-        let answer = reckoned.answer;
-        let ledger = reckoned.ledger;
-        match answer {
-            StepAnswer::Refused(n) => Step {
+        let mut places = [0usize; 20];
+        match plans::read_plan(plan, &mut places) {
+            PlanAnswer::Refused(n) => Step {
                 ledger: self,
                 answer: Answer::Refused(n),
             },
-            StepAnswer::Next(next) => {
-                let fault = cursor::end_of_piece(piece, next);
-                if fault != 0 {
-                    return Step {
-                        ledger: self,
-                        answer: Answer::Refused(fault),
-                    };
-                }
-                Step {
-                    ledger,
-                    answer: Answer::Accepted,
-                }
-            }
+            PlanAnswer::Read(planned) => give_piece(self, piece, plan, &places, planned),
         }
     }
 
@@ -210,45 +291,25 @@ impl Ledger {
         state.year - self.given
     }
 
-    // Opened from a dossier and given all its years; an empty ledger where the dossier is refused.
-    pub fn of_dossier(dossier: &[u8]) -> Step
-        ensures { λ r. ⌜ r ≡ dossierCall (now (dossier .entry)) ⌝ }
+    // Opened from a dossier and given all its years, under the plan that is lent; an empty ledger where plan or dossier is refused.
+    pub fn of_dossier<'a>(dossier: &'a [u8], plan: &'a [u8]) -> Step
+        ensures { λ r. ⌜ r ≡ dossierCall (now (dossier .entry)) (now (plan .entry)) ⌝ }
         ensures { λ r. ⌜ HandedBack (r .ledger) ⌝ }
     {
-        let opened = opening::read_opening(dossier);
-        let answer = opened.answer;
-        let terms = opened.terms;
-        let state = opened.state;
-        match answer {
-            OpeningAnswer::Refused(n) => refused_opening(n),
-            OpeningAnswer::Read(next) => {
-                let reckoned = give_years(dossier, next, new_ledger(terms, state), state.left);
-                let answer = reckoned.answer;
-                let ledger = reckoned.ledger;
-                match answer {
-                    StepAnswer::Refused(n) => refused_opening(n),
-                    StepAnswer::Next(next) => {
-                        let fault = years::read_end(dossier, next);
-                        if fault != 0 {
-                            return refused_opening(fault);
-                        }
-                        Step {
-                            ledger,
-                            answer: Answer::Accepted,
-                        }
-                    }
-                }
-            }
+        let mut places = [0usize; 20];
+        match plans::read_plan(plan, &mut places) {
+            PlanAnswer::Refused(n) => refused_opening(n),
+            PlanAnswer::Read(planned) => give_dossier(dossier, plan, &places, planned),
         }
     }
 }
 
-// The whole reckoning of a dossier: its number, 0 where it is accepted, and then the report in the buffer.
-pub fn reckon(dossier: &[u8], result: &mut [u8]) -> u8
-    ensures { λ r. ⌜ r ≡ reckonNumber (now (dossier .entry)) (length (now (result .entry))) ⌝ }
-    ensures { λ r. ⌜ now (result .exit) ≡ reckonBuffer (now (dossier .entry)) (now (result .entry)) ⌝ }
+// The whole reckoning of a dossier, under a plan or none: its number, 0 where it is accepted, and then the report in the buffer.
+pub fn reckon<'a>(dossier: &'a [u8], plan: &'a [u8], result: &mut [u8]) -> u8
+    ensures { λ r. ⌜ r ≡ reckonNumber (now (dossier .entry)) (now (plan .entry)) (length (now (result .entry))) ⌝ }
+    ensures { λ r. ⌜ now (result .exit) ≡ reckonBuffer (now (dossier .entry)) (now (plan .entry)) (now (result .entry)) ⌝ }
 {
-    let made = Ledger::of_dossier(dossier);
+    let made = Ledger::of_dossier(dossier, plan);
     let answer = made.answer;
     let ledger = made.ledger;
     match answer {
@@ -257,11 +318,24 @@ pub fn reckon(dossier: &[u8], result: &mut [u8]) -> u8
     }
 }
 
-// The whole reckoning for a host in C.
+// The whole reckoning for a host in C, under a plan or none.
+#[no_mangle]
+pub extern "C" fn kh_am004_reckon_plan<'a>(
+    dossier: &'a [u8],
+    plan: &'a [u8],
+    result: &mut [u8],
+) -> u32
+    ensures { λ r. ⌜ r ≡ reckonNumber (now (dossier .entry)) (now (plan .entry)) (length (now (result .entry))) ⌝ }
+    ensures { λ r. ⌜ now (result .exit) ≡ reckonBuffer (now (dossier .entry)) (now (plan .entry)) (now (result .entry)) ⌝ }
+{
+    reckon(dossier, plan, result) as u32
+}
+
+// The same with no plan.
 #[no_mangle]
 pub extern "C" fn kh_am004_reckon(dossier: &[u8], result: &mut [u8]) -> u32
-    ensures { λ r. ⌜ r ≡ reckonNumber (now (dossier .entry)) (length (now (result .entry))) ⌝ }
-    ensures { λ r. ⌜ now (result .exit) ≡ reckonBuffer (now (dossier .entry)) (now (result .entry)) ⌝ }
+    ensures { λ r. ⌜ r ≡ reckonNumber (now (dossier .entry)) [] (length (now (result .entry))) ⌝ }
+    ensures { λ r. ⌜ now (result .exit) ≡ reckonBuffer (now (dossier .entry)) [] (now (result .entry)) ⌝ }
 {
-    reckon(dossier, result) as u32
+    reckon(dossier, &dossier[..0], result) as u32
 }

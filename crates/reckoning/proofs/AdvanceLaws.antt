@@ -11,7 +11,7 @@ use mir.Val.{SFits}
 use Rattle.classes.specs.declared.CarbonUnits.{CarbonUnits}
 use Rattle.classes.specs.declared.Grams.{Grams}
 use Rattle.classes.specs.Matrix.{entry}
-use Rattle.classes.specs.Ranges.{greatestActivity, greatestFigure, greatestTotal}
+use Rattle.classes.specs.Ranges.{greatestActivity, greatestTotal}
 use Rattle.classes.proofs.RangeLaws.{plus-fits}
 use Rattle.projection.specs.declared.Region.{Region}
 use Rattle.projection.specs.declared.Projected.{Projected}
@@ -20,13 +20,13 @@ use Rattle.projection.specs.Ranges.{SmallRegion, RowsWithin, FactorsFit}
 use Rattle.projection.proofs.ProjectionLaws.{fitting-le}
 use Rattle.figures.specs.declared.Figures.{Figures}
 use Rattle.figures.specs.declared.YearDays.{YearDays}
-use Rattle.figures.specs.Ranges.{SmallCarbon, SmallYear, DaysOf}
+use Rattle.figures.specs.Ranges.{SmallCarbon, SmallYear, DaysOf, SmallNet}
 use Rattle.figures.specs.Carbon.{carbonFigures}
-use Rattle.figures.proofs.FiguresLaws.{projected-small, year-small}
+use Rattle.figures.proofs.FiguresLaws.{FiguresSmall, projected-small, year-small}
 use Rattle.figures.specs.declared.State.{State}
 use Rattle.figures.specs.Reckoning.{afterFigures}
 use Rattle.reckoning.specs.declared.Advanced.{Advanced}
-use Rattle.reckoning.specs.Step.{summaryFigures, summaryAdvanced}
+use Rattle.reckoning.specs.Step.{advancedFigures, carbonAdvanced}
 
 -- the carbon of a small region is small
 pub carbon-small : (matrix factors : List ℕ) (region : Region) (r : Projected) → RowsWithin matrix → FactorsFit factors → SmallRegion region
@@ -37,20 +37,25 @@ carbon-small matrix factors region r rows fit small e = rw e (projected-small re
 module _ (matrix factors : List ℕ) (state : State) (days : YearDays) (p b : CarbonUnits) (a : Grams) (r r′ : Projected) (figures : Figures)
     (e : r ≡ projectedYear (entry factors) matrix (state .project)) (e′ : r′ ≡ projectedYear (entry factors) matrix (state .belt))
     (ef : figures ≡ carbonFigures (record { projected = r .carbon; monitored = p }) (record { projected = r′ .carbon; monitored = b }) (a .0) days) where
-  figures-are : figures ≡ summaryFigures (entry factors) matrix (record { days = days; project = p; belt = b; activity = a }) state
-  unfolding summaryFigures projectedYear
+  figures-are : figures ≡ advancedFigures (entry factors) matrix days p b a state
+  unfolding advancedFigures projectedYear
   figures-are = ef ∙ rw (e, e′)
 
-  pub grown-fits : SmallYear (record { projected = r .carbon; monitored = p }) → SmallYear (record { projected = r′ .carbon; monitored = b }) → mag (a .0) ≤ greatestActivity
-      → DaysOf days → mag (state .total .0) ≤ greatestTotal → SFits w64 (state .total .0 +ℤ figures .credited .0)
-  grown-fits hp hb ha hd ht =
-      let small : mag (figures .credited .0) < greatestFigure = rw ef (year-small _ _ (a .0) days hp hb ha hd .credited) in
-      plus-fits (state .total .0) (figures .credited .0) ht (omega arith)
+  module _ (hp : SmallYear (record { projected = r .carbon; monitored = p })) (hb : SmallYear (record { projected = r′ .carbon; monitored = b }))
+      (ha : mag (a .0) ≤ greatestActivity) (hd : DaysOf days) where
+    small : FiguresSmall figures
+    small = rw ef (year-small _ _ (a .0) days hp hb ha hd)
+
+    pub net-small : SmallNet figures
+    net-small = (small .project, small .activity, small .displaced)
+
+    pub grown-fits : mag (state .total .0) ≤ greatestTotal → SFits w64 (state .total .0 +ℤ figures .credited .0)
+    grown-fits ht = plus-fits (state .total .0) (figures .credited .0) ht (omega (arith, small .credited))
 
   pub whole : (grown : Grams) → grown .0 ≡ state .total .0 +ℤ figures .credited .0
       → _≡_ {A = Advanced} (record { state = record { year = state .year + 1; left = state .left - 1; project = r .region; belt = r′ .region; total = grown }; figures = figures })
-      (summaryAdvanced (entry factors) matrix (record { days = days; project = p; belt = b; activity = a }) state)
-  unfolding summaryAdvanced afterFigures projectedYear
+      (carbonAdvanced (entry factors) matrix days p b a state)
+  unfolding carbonAdvanced afterFigures projectedYear
   whole grown g =
       let eg : grown ≡ record { 0 = state .total .0 +ℤ figures .credited .0 } = ap {B = Grams} (λ (z : ℤ). record { 0 = z }) g in
       rw (eg, e, e′, figures-are)

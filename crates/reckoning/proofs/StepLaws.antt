@@ -1,24 +1,50 @@
 -- A step over the bytes, in terms of the year that was read.
 -- Assumes nothing.
-use mathlib.Core.Path.{_≡_, refl}
+use mathlib.Core.Path.{_≡_, refl, _∙_, ap}
+use mathlib.Core.Bool.{Bool, true, false, cond}
+use mathlib.Core.Option.{Option}
 use mathlib.Core.List.{List}
-use Prim.Native.Nat.{ℕ, _<_}
+use Prim.Native.Nat.{ℕ, _≤_, _<_}
+use lib.ListN.{length, drop}
 use Rattle.arithmetic.proofs.SumLaws.{sum2-cong}
 use Rattle.classes.specs.Classes.{classes, emissionFactor}
 use Rattle.classes.specs.Matrix.{entry, tableOf}
 use Rattle.classes.proofs.MatrixLaws.{entry-tableOf}
 use Rattle.projection.specs.declared.Region.{Region}
 use Rattle.projection.specs.Projection.{projectedCarbon}
+use Rattle.activity.specs.declared.Activity.{Activity}
 use Rattle.figures.specs.declared.Terms.{Terms}
 use Rattle.figures.specs.declared.State.{State}
 use Rattle.figures.specs.Year.{Year}
 use Rattle.figures.specs.Figures.{monitoredCarbon, countedFactor}
 use Rattle.figures.specs.Reckoning.{regionReference, tableEmissions, yearFigures, afterYear}
-use Rattle.dossier.specs.Reader.{Judged, refused, accepted, after, _>>=_, give}
-use Rattle.dossier.specs.Judging.{year}
-use Rattle.years.specs.Answers.{summary, summarizedYear}
+use Rattle.dossier.specs.Reader.{Judged, refused, accepted, after, _>>=_, _>>_, give, holds}
+use Rattle.dossier.specs.Causes.{plannedYearWrong}
+use Rattle.dossier.specs.Plan.{Plan, recordsFor}
+use Rattle.dossier.specs.Records.{Due}
+use Rattle.dossier.specs.Judging.{yearLeft, allowed, year}
+use Rattle.dossier.proofs.ReaderLaws.{bind-yes}
+use Rattle.years.specs.Answers.{Summary, summary, summarizedYear}
 use Rattle.reckoning.specs.declared.Advanced.{Advanced}
-use Rattle.reckoning.specs.Step.{summaryFigures, summaryAdvanced, steppedYear}
+use Rattle.reckoning.specs.declared.StepAnswer.{StepAnswer}
+use Rattle.reckoning.specs.Step.{advancedFigures, carbonAdvanced, summaryAdvanced, smallIfPlanned, steppedYear, stepJudged, stepInside}
+
+-- ---- a year that was read and reckoned: its answer, and where what follows begins
+answered : (s : List ℕ) (b : Bool) (a : Advanced) (next : ℕ) (answer : StepAnswer) → answer ≡ cond b (StepAnswer.Next next) (StepAnswer.Refused 13) → next ≤ length s
+    → (stepJudged s (record { answer = answer; advanced = a }) answer ≡ (holds plannedYearWrong b >> give a) (drop next s)) × stepInside s answer
+unfolding holds give _>>_
+answered s true a next answer e inside = rw e (refl, inside)
+answered s false a next answer e inside = rw e (refl, tt)
+
+pub step-made : (factor counted : ℕ → ℕ → ℕ) (matrix : List ℕ) (fromPlan : Option (List Activity)) (start beltstart : ℕ) (state : State) (u s : List ℕ) (m : Summary) (next : ℕ)
+    (a : Advanced) (answer : StepAnswer) → accepted m (drop next s) ≡ summarizedYear counted fromPlan (state .year) (state .left) start beltstart u
+    → a ≡ summaryAdvanced factor matrix m state → answer ≡ cond (smallIfPlanned (m .planned) (a .figures)) (StepAnswer.Next next) (StepAnswer.Refused 13) → next ≤ length s
+    → (stepJudged s (record { answer = answer; advanced = a }) answer ≡ steppedYear factor counted matrix fromPlan start beltstart state u) × stepInside s answer
+unfolding steppedYear
+step-made factor counted matrix fromPlan start beltstart state u s m next a answer says made judged inside =
+    let (says-answer, answer-inside) = answered s (smallIfPlanned (m .planned) (a .figures)) a next answer judged inside in
+    let same = ap (λ (x : Advanced). (holds plannedYearWrong (smallIfPlanned (m .planned) (x .figures)) >> give x) (drop next s)) made in
+    (says-answer ∙ same ∙ bind-yes (summarizedYear counted fromPlan (state .year) (state .left) start beltstart) _ u m (drop next s) says, answer-inside)
 
 -- ---- by the tables of the terms, a step is the year's own reckoning
 -- what a year makes
@@ -42,8 +68,11 @@ module _ (t : Terms) (factors counted : List ℕ) (ef : factors ≡ tableOf (emi
   counted-is i j hi hj = rw ec (entry-tableOf (countedFactor (t .option) (emissionFactor (t .stocks))) i j hi hj)
 
   module _ (y : Year) (state : State) where
-    figures-same : summaryFigures (entry factors) (t .matrix) (summary (entry counted) y) state ≡ yearFigures t y (state .project) (state .belt)
-    unfolding summaryFigures yearFigures regionReference tableEmissions
+    abbrev read : Summary
+    read = summary (entry counted) y
+
+    figures-same : advancedFigures (entry factors) (t .matrix) (read .days) (read .project) (read .belt) (read .activity) state ≡ yearFigures t y (state .project) (state .belt)
+    unfolding advancedFigures yearFigures regionReference tableEmissions
     figures-same =
         rw (
           carbon-same (entry factors) (emissionFactor (t .stocks)) (state .project) (t .matrix) factor-is,
@@ -52,16 +81,35 @@ module _ (t : Terms) (factors counted : List ℕ) (ef : factors ≡ tableOf (emi
           monitored-same (entry counted) (countedFactor (t .option) (emissionFactor (t .stocks))) (y .beltConversions) counted-is,
         )
 
-    advanced-same : summaryAdvanced (entry factors) (t .matrix) (summary (entry counted) y) state ≡ yearAdvanced t y state
-    unfolding summaryAdvanced yearAdvanced afterYear
+    advanced-same : summaryAdvanced (entry factors) (t .matrix) read state ≡ yearAdvanced t y state
+    unfolding carbonAdvanced yearAdvanced afterYear
     advanced-same = rw figures-same
 
-  pub step-is : (state : State) (u : List ℕ)
-      → steppedYear (entry factors) (entry counted) (t .matrix) (t .start .0) (t .beltstart .0) state u ≡ after (year (record { terms = t; state = state }) u) (λ y. give (yearAdvanced t y state))
-  unfolding steppedYear summarizedYear give _>>=_
-  step-is state u = unfold year in go (year (record { terms = t; state = state }) u)
+  pub step-is : (plan : Option Plan) (state : State) (u : List ℕ)
+      → steppedYear (entry factors) (entry counted) (t .matrix) (recordsFor plan (state .year)) (t .start .0) (t .beltstart .0) state u
+      ≡ after (year (record { terms = t; state = state; plan = plan }) u) (λ y. give (yearAdvanced t y state))
+  unfolding steppedYear summarizedYear year give _>>=_ _>>_
+  step-is plan state u = go (yearLeft (recordsFor plan (state .year)) (state .year) (state .left) (t .start .0) (t .beltstart .0) u)
     where
+      due : Due
+      due = record { terms = t; state = state; plan = plan }
+
+      made : (b : Bool) (y : Year) (v : List ℕ)
+          → after (holds plannedYearWrong b v) (λ _. give (yearAdvanced t y state)) ≡ after (after (holds plannedYearWrong b v) (λ _. give y)) (λ y. give (yearAdvanced t y state))
+      made true y v = unfold holds give in refl
+      made false y v = unfold holds give in refl
+
+      same : (y : Year) (v : List ℕ)
+          → after (holds plannedYearWrong (smallIfPlanned (y .planned) (summaryAdvanced (entry factors) (t .matrix) (summary (entry counted) y) state .figures)) v)
+          (λ _. give (summaryAdvanced (entry factors) (t .matrix) (summary (entry counted) y) state))
+          ≡ after (holds plannedYearWrong (allowed due y) v) (λ _. give (yearAdvanced t y state))
+      same y v =
+          unfold yearAdvanced in
+          ap (λ (a : Advanced). after (holds plannedYearWrong (smallIfPlanned (y .planned) (a .figures)) v) (λ _. give a)) (advanced-same y state)
+
       go : (j : Judged Year)
-          → after (after j (λ y. give (summary (entry counted) y))) (λ m. give (summaryAdvanced (entry factors) (t .matrix) m state)) ≡ after j (λ y. give (yearAdvanced t y state))
+          → after (after j (λ y. give (summary (entry counted) y)))
+          (λ m. holds plannedYearWrong (smallIfPlanned (m .planned) (summaryAdvanced (entry factors) (t .matrix) m state .figures)) >> give (summaryAdvanced (entry factors) (t .matrix) m state))
+          ≡ after (after j (λ y. holds plannedYearWrong (allowed due y) >> give y)) (λ y. give (yearAdvanced t y state))
       go (refused n) = refl
-      go (accepted y v) = unfold give in rw (advanced-same y state)
+      go (accepted y v) = unfold give _>>_ in same y v ∙ made (allowed due y) y v

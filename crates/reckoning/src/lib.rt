@@ -1,4 +1,4 @@
-// One year's reckoning over the bytes of a dossier or of a year piece.
+// One year's reckoning over the bytes of a dossier or of a year piece, and of the plan that is lent.
 use classes::AreaUnits;
 use classes::CarbonUnits;
 use classes::Grams;
@@ -6,16 +6,19 @@ use figures::Figures;
 use figures::State;
 use figures::YearCarbon;
 use figures::YearDays;
+use plans::Found;
 use years::YearAnswer;
 ghost use mathlib.Core.Path.{_≡_};
+ghost use mathlib.Core.Bool.{cond};
 ghost use Prim.Native.Nat.{_≤_};
 ghost use lib.Signed.{mag};
 ghost use lib.ListN.{length, drop};
 ghost use Rattle.classes.specs.Matrix.{entry};
 ghost use Rattle.classes.specs.Ranges.{greatestActivity};
 ghost use Rattle.projection.specs.Ranges.{SmallArea, RowsWithin, FactorsFit};
-ghost use Rattle.figures.specs.Ranges.{SmallCarbon, DaysOf};
-ghost use Rattle.reckoning.specs.Step.{summaryAdvanced, steppedYear, stepSays, stepInside, SmallState};
+ghost use Rattle.figures.specs.Ranges.{SmallCarbon, DaysOf, SmallNet};
+ghost use Rattle.plans.specs.Answers.{takenAt, FoundInside};
+ghost use Rattle.reckoning.specs.Step.{carbonAdvanced, smallIfPlanned, steppedYear, stepSays, stepInside, SmallState};
 
 // The state after a year, and the year's figures.
 pub struct Advanced {
@@ -48,7 +51,8 @@ fn advance(
     requires { ⌜ RowsWithin (now matrix) ⌝ }
     requires { ⌜ FactorsFit (now factors) ⌝ }
     requires { ⌜ (SmallCarbon (project .0)) × (SmallCarbon (belt .0)) × (mag (activity .0) ≤ greatestActivity) × (1 ≤ state .left) × DaysOf days ⌝ }
-    ensures { λ r. ⌜ r ≡ summaryAdvanced (entry (now (factors .entry))) (now (matrix .entry)) (record { days = days; project = project; belt = belt; activity = activity }) state ⌝ }
+    ensures { λ r. ⌜ r ≡ carbonAdvanced (entry (now (factors .entry))) (now (matrix .entry)) days project belt activity state ⌝ }
+    ensures { λ r. ⌜ SmallNet (r .figures) ⌝ }
 {
     let region = state.project;
     let after = region.projected(matrix, factors);
@@ -82,10 +86,26 @@ fn advance(
     }
 }
 
-// The year that is due, from at: start and belt are the starting areas, factors and counted the emission factors of projected and of monitored conversions.
-pub fn step(
-    s: &[u8],
+// What a year with these figures answers: 13 where its quantities are planned and its activity emissions are not small.
+fn judged(planned: bool, figures: Figures, next: usize) -> StepAnswer
+    requires { ⌜ SmallNet figures ⌝ }
+    ensures { λ r. ⌜ r ≡ cond (smallIfPlanned planned figures) (StepAnswer.Next next) (StepAnswer.Refused 13) ⌝ }
+{
+    if planned {
+        if !figures::small_activity(figures) {
+            return StepAnswer::Refused(13);
+        }
+    }
+    StepAnswer::Next(next)
+}
+
+// The year that is due, from at: the plan's records for it are found, start and belt are the starting areas, factors and counted the emission factors of
+// projected and of monitored conversions.
+pub fn step<'a>(
+    s: &'a [u8],
     at: usize,
+    plan: &'a [u8],
+    found: Found,
     state: State,
     start: AreaUnits,
     belt: AreaUnits,
@@ -94,14 +114,25 @@ pub fn step(
     counted: &[u64; 144],
 ) -> Stepped
     requires { ⌜ (at ≤ length (now s)) × (SmallArea (start .0)) × (SmallArea (belt .0)) ⌝ }
+    requires { ⌜ FoundInside (now plan) found ⌝ }
     requires { ⌜ SmallState state ⌝ }
     requires { ⌜ RowsWithin (now matrix) ⌝ }
     requires { ⌜ FactorsFit (now factors) ⌝ }
     requires { ⌜ FactorsFit (now counted) ⌝ }
-    ensures { λ r. ⌜ stepSays (now (s .entry)) r ≡ steppedYear (entry (now (factors .entry))) (entry (now (counted .entry))) (now (matrix .entry)) (start .0) (belt .0) state (drop at (now (s .entry))) ⌝ }
+    ensures { λ r. ⌜ stepSays (now (s .entry)) r ≡ steppedYear (entry (now (factors .entry))) (entry (now (counted .entry))) (now (matrix .entry)) (takenAt (now (plan .entry)) found) (start .0) (belt .0) state (drop at (now (s .entry))) ⌝ }
     ensures { λ r. ⌜ stepInside (now (s .entry)) (r .answer) ⌝ }
 {
-    match years::read_year(s, at, state.year, state.left, start, belt, counted) {
+    match years::read_year(
+        s,
+        at,
+        plan,
+        found,
+        state.year,
+        state.left,
+        start,
+        belt,
+        counted,
+    ) {
         YearAnswer::Refused(n) => Stepped {
             answer: StepAnswer::Refused(n),
             advanced: Advanced {
@@ -113,11 +144,16 @@ pub fn step(
             days,
             project,
             belt: belt_carbon,
+            planned,
             activity,
             next,
-        } => Stepped {
-            answer: StepAnswer::Next(next),
-            advanced: advance(state, days, project, belt_carbon, activity, matrix, factors),
-        },
+        } => {
+            let advanced = advance(state, days, project, belt_carbon, activity, matrix, factors);
+            let figures = advanced.figures;
+            Stepped {
+                answer: judged(planned, figures, next),
+                advanced,
+            }
+        }
     }
 }

@@ -1,19 +1,19 @@
 // Reckons the dossiers of a list on standard input and prints a line for each: what the stored vectors are tried with.
 //
-// A vector is a label of up to 100 bytes and a dossier of up to 65,536, each after its big-endian 32-bit length, and such a
-// length of a buffer, up to 1,312. The list ends where a vector is cut or longer. A line is the label and the number; of an
-// accepted dossier every whole 64-bit number of the buffer follows, those beyond the report too.
+// A vector is a label of up to 100 bytes, a dossier and a plan of up to 65,536 each, each of the three after its big-endian
+// 32-bit length, and such a length of a buffer, up to 1,312. The list ends where a vector is cut or longer. A line is the label
+// and the number; of an accepted dossier every whole 64-bit number of the buffer follows, those beyond the report too.
 use console::FILLING;
 use libc::STDOUT_FILENO;
 ghost use Prim.Native.Nat.{_≤_};
 ghost use lib.ListN.{length};
 
 // The line of a vector, and another one where a refusal changed the buffer.
-fn print_vector(label: &[u8], dossier: &[u8], room: usize)
+fn print_vector<'a>(label: &[u8], dossier: &'a [u8], plan: &'a [u8], room: usize)
     requires { ⌜ (length (now label) ≤ 100) × (room ≤ 1312) ⌝ }
 {
     let mut result = [FILLING; 1312];
-    let n = reckoner::reckon(dossier, &mut result[..room]);
+    let n = reckoner::reckon(dossier, plan, &mut result[..room]);
     if n == 0 {
         console::print_call(label, 0, &result[..room]);
         return;
@@ -24,23 +24,43 @@ fn print_vector(label: &[u8], dossier: &[u8], room: usize)
     }
 }
 
+// Reads a dossier or a plan to the front of an array; its length, or 65,537 where it is cut or longer.
+fn read_part(space: &mut [u8]) -> usize
+    requires { ⌜ 65536 ≤ length (now space) ⌝ }
+    ensures { λ r. ⌜ r ≤ 65537 ⌝ }
+{
+    let length = console::read_length();
+    if 65536 < length {
+        return 65537;
+    }
+    if console::read_piece(&mut space[..length]) {
+        length
+    } else {
+        65537
+    }
+}
+
 // The next vector of the list; whether there was one.
 fn try_vector() -> bool {
     let mut label = [0u8; 100];
     let mut dossier = io::large_buffer();
+    let mut plan = io::large_buffer();
     let label_length = console::read_length();
     if 100 < label_length || !console::read_piece(&mut label[..label_length]) {
         return false;
     }
-    let dossier_length = console::read_length();
-    if 65536 < dossier_length || !console::read_piece(&mut dossier[..dossier_length]) {
-        return false;
-    }
+    let dossier_length = read_part(&mut dossier);
+    let plan_length = read_part(&mut plan);
     let room = console::read_length();
-    if 1312 < room {
+    if 65536 < dossier_length || 65536 < plan_length || 1312 < room {
         return false;
     }
-    print_vector(&label[..label_length], &dossier[..dossier_length], room);
+    print_vector(
+        &label[..label_length],
+        &dossier[..dossier_length],
+        &plan[..plan_length],
+        room,
+    );
     true
 }
 

@@ -1,9 +1,11 @@
-// A year of a dossier: YR, CP, CD and its activity records, each table read and weighed in one pass.
+// A year of a dossier: YR, CP, CD and its activity records or PL, each table read and weighed in one pass.
 use classes::AreaUnits;
 use classes::CarbonUnits;
 use classes::Grams;
 use figures::YearDays;
+use plans::Found;
 ghost use mathlib.Core.Path.{_≡_};
+ghost use mathlib.Core.Bool.{cond};
 ghost use Prim.Native.Nat.{_≤_, _<_};
 ghost use lib.ListN.{length, drop};
 ghost use Rattle.classes.specs.Matrix.{entry};
@@ -12,6 +14,7 @@ ghost use Rattle.projection.specs.Ranges.{SmallArea, FactorsFit};
 ghost use Rattle.dossier.specs.Claims.{numberOf};
 ghost use Rattle.dossier.specs.Judging.{noneLeft, end};
 ghost use Rattle.cursor.specs.Answers.{numberSays};
+ghost use Rattle.plans.specs.Answers.{takenAt, FoundInside};
 ghost use Rattle.years.specs.Answers.{monitoredTable, tableSays, tableInside, summarizedRecords, summarizedTables, summarizedYear, yearSays, recordsInside, tablesInside, yearFits};
 
 const YR: u64 = 0x5952;
@@ -19,6 +22,8 @@ const YR: u64 = 0x5952;
 const CP: u64 = 0x4350;
 
 const CD: u64 = 0x4344;
+
+const PL: u64 = 0x504c;
 
 const EN: u64 = 0x454e;
 
@@ -32,6 +37,7 @@ pub enum YearAnswer {
         days: YearDays,
         project: CarbonUnits,
         belt: CarbonUnits,
+        planned: bool,
         activity: Grams,
         next: usize,
     },
@@ -70,10 +76,12 @@ fn read_table(s: &[u8], at: usize, m: u64, total: AreaUnits, factors: &[u64; 144
     }
 }
 
-// A year from CP on, of these days: both tables and the activity records.
-fn read_tables(
-    s: &[u8],
+// A year from CP on, of these days: both tables, and the activity records or PL.
+fn read_tables<'a>(
+    s: &'a [u8],
     at: usize,
+    plan: &'a [u8],
+    found: Found,
     days: YearDays,
     project: AreaUnits,
     belt: AreaUnits,
@@ -81,7 +89,8 @@ fn read_tables(
 ) -> YearAnswer
     requires { ⌜ (at ≤ length (now s)) × SmallArea (project .0) × SmallArea (belt .0) ⌝ }
     requires { ⌜ FactorsFit (now factors) ⌝ }
-    ensures { λ r. ⌜ yearSays (now (s .entry)) r ≡ summarizedTables (entry (now (factors .entry))) days (project .0) (belt .0) (drop at (now (s .entry))) ⌝ }
+    requires { ⌜ FoundInside (now plan) found ⌝ }
+    ensures { λ r. ⌜ yearSays (now (s .entry)) r ≡ summarizedTables (entry (now (factors .entry))) (takenAt (now (plan .entry)) found) days (project .0) (belt .0) (drop at (now (s .entry))) ⌝ }
     ensures { λ r. ⌜ tablesInside (now (s .entry)) r ⌝ }
 {
     match read_table(s, at, CP, project, factors) {
@@ -91,31 +100,57 @@ fn read_tables(
             TableAnswer::Read {
                 carbon: belt_carbon,
                 next: records,
-            } => read_records(s, records, days, carbon, belt_carbon),
+            } => read_records(s, records, plan, found, days, carbon, belt_carbon),
         },
     }
 }
 
-// A year from its activity records on.
-fn read_records(
-    s: &[u8],
+// The bytes that a year's activity records are read from: the plan's from a place on where PL stands, otherwise the dossier's own.
+fn records_part<'a>(s: &'a [u8], at: usize, plan: &'a [u8], from: usize, planned: bool) -> &'a [u8]
+    requires { ⌜ (at ≤ length (now s)) × (from ≤ length (now plan)) ⌝ }
+    ensures { λ r. ⌜ now r ≡ cond planned (drop from (now (plan .entry))) (drop at (now (s .entry))) ⌝ }
+{
+    if planned { &plan[from..] } else { &s[at..] }
+}
+
+// The bytes of the dossier that stand for the records: PL, or the records themselves, which end at a place of their part.
+fn records_length(end: usize, planned: bool) -> usize
+    ensures { λ r. ⌜ r ≡ cond planned 2 end ⌝ }
+{
+    if planned { 2 } else { end }
+}
+
+// A year from its activity records on, or from PL, where the plan's records are found.
+fn read_records<'a>(
+    s: &'a [u8],
     at: usize,
+    plan: &'a [u8],
+    found: Found,
     days: YearDays,
     project: CarbonUnits,
     belt: CarbonUnits,
 ) -> YearAnswer
     requires { ⌜ at ≤ length (now s) ⌝ }
-    ensures { λ r. ⌜ yearSays (now (s .entry)) r ≡ summarizedRecords days project belt (drop at (now (s .entry))) ⌝ }
+    requires { ⌜ FoundInside (now plan) found ⌝ }
+    ensures { λ r. ⌜ yearSays (now (s .entry)) r ≡ summarizedRecords (takenAt (now (plan .entry)) found) days project belt (drop at (now (s .entry))) ⌝ }
     ensures { λ r. ⌜ recordsInside (now (s .entry)) r ⌝ }
 {
-    match activities::read_run(&s[at..]) {
+    let planned = cursor::stands(s, at, PL);
+    if planned {
+        if !found.there {
+            return YearAnswer::Refused(13);
+        }
+    }
+    let from = found.from;
+    match activities::read_run(records_part(s, at, plan, from, planned)) {
         activities::RunAnswer::Refused(n) => YearAnswer::Refused(n),
         activities::RunAnswer::Read { grams, next } => YearAnswer::Read {
             days,
             project,
             belt,
+            planned,
             activity: grams,
-            next: at + next,
+            next: at + records_length(next, planned),
         },
     }
 }
@@ -154,10 +189,13 @@ pub fn read_end(s: &[u8], at: usize) -> u8
     0
 }
 
-// YR to the last activity record, from at: year is due, left years are left, and project and belt are the totals of PA and DA.
-pub fn read_year(
-    s: &[u8],
+// YR to the last activity record or PL, from at: year is due, left years are left, project and belt are the totals of PA and DA, and the plan's records
+// for the year are found.
+pub fn read_year<'a>(
+    s: &'a [u8],
     at: usize,
+    plan: &'a [u8],
+    found: Found,
     year: u64,
     left: u64,
     project: AreaUnits,
@@ -166,7 +204,8 @@ pub fn read_year(
 ) -> YearAnswer
     requires { ⌜ (at ≤ length (now s)) × SmallArea (project .0) × SmallArea (belt .0) ⌝ }
     requires { ⌜ FactorsFit (now factors) ⌝ }
-    ensures { λ r. ⌜ yearSays (now (s .entry)) r ≡ summarizedYear (entry (now (factors .entry))) year left (project .0) (belt .0) (drop at (now (s .entry))) ⌝ }
+    requires { ⌜ FoundInside (now plan) found ⌝ }
+    ensures { λ r. ⌜ yearSays (now (s .entry)) r ≡ summarizedYear (entry (now (factors .entry))) (takenAt (now (plan .entry)) found) year left (project .0) (belt .0) (drop at (now (s .entry))) ⌝ }
     ensures { λ r. ⌜ tablesInside (now (s .entry)) r ⌝ }
     ensures { λ r. ⌜ yearFits left r ⌝ }
 {
@@ -189,5 +228,5 @@ pub fn read_year(
         operating,
         calendar,
     };
-    read_tables(s, at + 6, days, project, belt, factors)
+    read_tables(s, at + 6, plan, found, days, project, belt, factors)
 }

@@ -1,15 +1,18 @@
--- `ledgertrace::main` meets its contract: every call gets a ledger that the calls handed back, and the list ends.
+-- `ledgertrace::main` meets its contract: every call gets a ledger that the calls handed back, the plan stays inside its array, and the list ends.
 -- Assumes nothing.
+use Prim.Native.Nat.{_≤_}
+use mathlib.Core.Path.{_≡_}
+use lib.ListN.{length}
 use borrow.Author.Needs.{needs}
 use Rattle.reckoner.specs.Calls.{HandedBack}
 use Rattle.ledgertrace.proofs.main.Statement.{statement}
 use Rattle.ledgertrace.proofs.main.Tie as tie
 
 abbrev Inv-loop : tie.InvT-loop
-Inv-loop trace₀ trace = HandedBack (trace .ledger)
+Inv-loop plan₀ trace₀ plan trace = HandedBack (trace .ledger) × (length plan ≡ 65536) × (trace .planned ≤ 65536)
 
 abbrev μ-loop : tie.MeasureT-loop
-μ-loop trace₀ trace = trace .left
+μ-loop plan₀ trace₀ plan trace = trace .left
 
 slice-aggregate-open : tie.Need-slice-aggregate-open Inv-loop μ-loop
 slice-aggregate-open c = search needs
@@ -17,8 +20,14 @@ slice-aggregate-open c = search needs
 open-requires : tie.Need-open-requires Inv-loop μ-loop
 open-requires c κs = search needs
 
+large-buffer-requires : tie.Need-large-buffer-requires Inv-loop μ-loop
+large-buffer-requires c κs = search needs
+
 loop-holds : tie.Need-loop-holds Inv-loop μ-loop
 loop-holds c = search needs
+
+slice-aggregate-trace-call : tie.Need-slice-aggregate-trace-call Inv-loop μ-loop
+slice-aggregate-trace-call c = search needs
 
 trace-call-requires : tie.Need-trace-call-requires Inv-loop μ-loop
 trace-call-requires c κs = search needs
@@ -40,7 +49,9 @@ main-spec =
     μ-loop
     slice-aggregate-open
     open-requires
+    large-buffer-requires
     loop-holds
+    slice-aggregate-trace-call
     trace-call-requires
     loop-less
     loop-again

@@ -5,6 +5,9 @@ use Rattle.printout.proofs.PrintoutLaws.{refusal-printed, sheet-printed
 use Rattle.printout.proofs.write_printout.Statement.{statement}
 use Rattle.printout.proofs.write_printout.Tie as tie
 
+slice-aggregate-of-dossier : tie.Need-slice-aggregate-of-dossier
+slice-aggregate-of-dossier c = search needs
+
 of-dossier-requires : tie.Need-of-dossier-requires
 of-dossier-requires c κs = search needs
 
@@ -30,9 +33,9 @@ returns-2 : tie.Need-returns-2
 returns-2 c =
     let at-told = c .before .before in
     let at-made = at-told .before .before .before in
-    let lent = at-made .before .shared-slice-known in
+    let lent = at-made .before .before .shared-slice-known in
     rw (← sheet-printed _ _ (at-made .of-dossier .ensures .0) (λ k. lent .given k .fits) (at-told .enum-told .given .1)) (c .write-ledger-sheet .ensures)
 
 pub write-printout-spec : {M : Type 1} → statement M
 write-printout-spec =
-    tie.close (tie.spec of-dossier-requires enum-known-answer write-refusal-requires enum-told write-ledger-sheet-requires returns returns-2)
+    tie.close (tie.spec slice-aggregate-of-dossier of-dossier-requires enum-known-answer write-refusal-requires enum-told write-ledger-sheet-requires returns returns-2)

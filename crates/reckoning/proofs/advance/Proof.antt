@@ -8,7 +8,7 @@ use Rattle.classes.specs.Ranges.{greatestActivity}
 use Rattle.projection.specs.Ranges.{RowsWithin, FactorsFit}
 use Rattle.figures.specs.Ranges.{SmallCarbon, DaysOf}
 use Rattle.reckoning.specs.Step.{SmallState}
-use Rattle.reckoning.proofs.AdvanceLaws.{carbon-small, grown-fits, whole}
+use Rattle.reckoning.proofs.AdvanceLaws.{carbon-small, net-small, grown-fits, whole}
 use Rattle.reckoning.proofs.advance.Statement.{statement}
 use Rattle.reckoning.proofs.advance.Tie as tie
 
@@ -93,13 +93,24 @@ returns c =
     let at-total = at-plus .before in
     let figures = at-figures at-total in
     let projected = figures .before in
-    let a = at-start projected .args in
-    whole (a .matrix .now) (a .factors .now) (a .state) _ _ _ _ _ _ _
-    (at-project projected .projected .ensures)
-    (at-belt projected .projected2 .ensures)
-    (figures .year-figures .ensures)
-    _
-    (at-plus .plus .ensures)
+    let start = at-start projected in
+    let a = start .args in
+    let given = asked start in (
+      whole (a .matrix .now) (a .factors .now) (a .state) _ _ _ _ _ _ _
+          (at-project projected .projected .ensures)
+          (at-belt projected .projected2 .ensures)
+          (figures .year-figures .ensures)
+          _
+          (at-plus .plus .ensures),
+      net-small (a .matrix .now) (a .factors .now) (a .state) _ _ _ _ _ _ _
+          (at-project projected .projected .ensures)
+          (at-belt projected .projected2 .ensures)
+          (figures .year-figures .ensures)
+          (project-small projected, given .project)
+          (belt-small projected, given .belt)
+          (given .activity)
+          (given .days),
+    )
 
 pub advance-spec : {M : Type 1} → statement M
 advance-spec =

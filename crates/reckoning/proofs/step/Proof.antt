@@ -1,11 +1,12 @@
 -- `reckoning::step` meets its contract: the year is read, then reckoned; the first fault counts.
 -- Assumes nothing.
 use borrow.Author.Needs.{needs}
-use Rattle.dossier.specs.Reader.{give}
-use Rattle.dossier.proofs.ReaderLaws.{bind-no, bind-yes}
+use Rattle.classes.specs.Matrix.{entry}
+use Rattle.dossier.proofs.ReaderLaws.{bind-no}
 use Rattle.cursor.proofs.AtLaws.{told}
 use Rattle.years.specs.Answers.{yearSays, tablesInside, yearFits}
 use Rattle.reckoning.specs.Step.{steppedYear}
+use Rattle.reckoning.proofs.StepLaws.{step-made}
 use Rattle.reckoning.proofs.step.Statement.{statement}
 use Rattle.reckoning.proofs.step.Tie as tie
 
@@ -21,32 +22,39 @@ no-figures-requires c κs = search needs
 enum-known-days : tie.Need-enum-known-days
 enum-known-days c = search needs
 
+-- the places: the year read, from where its answer is taken apart; the start
+abbrev at-read : tie.After-known-told2 → tie.After-read-year
+at-read c = c .before .before .before
+
+abbrev at-start : tie.After-read-year → tie.Start
+at-start c = c .before .before .before
+
 advance-requires : tie.Need-advance-requires
 advance-requires c κs =
-    let at-read = c .before .before .before in
-    let at-start = at-read .before .before in
-    let (_, (small, (rows, (fit, _)))) = at-start .pre in
-    let a = at-start .args in
+    let (_, (_, (small, (rows, (fit, _))))) = at-start (at-read c) .pre in
+    let a = at-start (at-read c) .args in
     let (_, ((_, project, belt, activity), (some, allowed))) =
-    told (yearSays (a .s .now)) (λ r. tablesInside (a .s .now) r × yearFits (a .state .left) r) (c .before .days .given .1) (at-read .read-year .ensures) in
+    told (yearSays (a .s .now)) (λ r. tablesInside (a .s .now) r × yearFits (a .state .left) r) (c .before .days .given .1) (at-read c .read-year .ensures) in
     (small, (rows, (fit, (project, belt, activity, some, allowed))))
+
+judged-requires : tie.Need-judged-requires
+judged-requires c κs = search needs
 
 returns : tie.Need-returns
 unfolding steppedYear
 returns c =
     let at-refused = c .before .before in
-    let at-read = at-refused .before .before in
-    (bind-no _ _ _ _ (rw (at-refused .n .given .1) at (at-read .read-year .ensures .0)), tt)
+    let at-answer = at-refused .before .before in
+    (bind-no _ _ _ _ (rw (at-refused .n .given .1) at (at-answer .read-year .ensures .0)), tt)
 
 returns-2 : tie.Need-returns-2
-unfolding steppedYear give
 returns-2 c =
-    let at-told = c .before .before in
-    let at-read = at-told .before .before in
-    let a = at-read .before .before .args in
+    let at-advance = c .before .before in
+    let at-told = at-advance .before in
+    let a = at-start (at-read at-told) .args in
     let (says, ((inside, _, _, _), _)) =
-    told (yearSays (a .s .now)) (λ r. tablesInside (a .s .now) r × yearFits (a .state .left) r) (at-told .days .given .1) (at-read .read-year .ensures) in
-    (rw (c .advance .ensures) (bind-yes _ _ _ _ _ says), inside)
+    told (yearSays (a .s .now)) (λ r. tablesInside (a .s .now) r × yearFits (a .state .left) r) (at-told .before .days .given .1) (at-read at-told .read-year .ensures) in
+    step-made (entry (a .factors .now)) _ (a .matrix .now) _ _ _ (a .state) _ (a .s .now) _ _ _ _ says (at-advance .advance .ensures .0) (c .judged .ensures) inside
 
 pub step-spec : {M : Type 1} → statement M
 step-spec =
@@ -57,5 +65,6 @@ step-spec =
     no-figures-requires
     enum-known-days
     advance-requires
+    judged-requires
     returns
     returns-2)

@@ -15,7 +15,7 @@ abbrev at-lent : tie.After-result2 → tie.After-result
 at-lent c = c .before .before
 
 abbrev at-start : tie.After-result → tie.Start
-at-start c = c .before .before .before
+at-start c = c .before .before .before .before
 
 abbrev buffer : List ℕ
 buffer = replicate 1312 165
@@ -24,10 +24,10 @@ room-in : (room : ℕ) → room ≤ 1312 → room ≤ length buffer
 room-in room h = omega (arith, length-replicate {A = ℕ} 1312 165)
 
 -- the buffer is lent in part, and comes back whole
-whole : (c : tie.After-result2) → length (c .before .reckon .last .1 .0 ++ drop (at-start (at-lent c) .args .room) buffer) ≡ 1312
+whole : (c : tie.After-result2) → length (c .before .reckon .last .1 .1 .0 ++ drop (at-start (at-lent c) .args .room) buffer) ≡ 1312
 whole c =
     let (label, room) = at-start (at-lent c) .pre in
-    lent-back _ (c .before .reckon .last .1 .0) buffer (c .result2 .given) (room-in _ room) ∙ length-replicate {A = ℕ} 1312 165
+    lent-back _ (c .before .reckon .last .1 .1 .0) buffer (c .result2 .given) (room-in _ room) ∙ length-replicate {A = ℕ} 1312 165
 
 array-borrow-prefix-result : tie.Need-array-borrow-prefix-result
 array-borrow-prefix-result c = search needs

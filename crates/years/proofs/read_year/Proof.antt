@@ -19,13 +19,13 @@ abbrev at-begun : tie.After-field16 → tie.After-begun
 at-begun c = c .before .before
 
 abbrev at-start : tie.After-begun → tie.Start
-at-start c = c .before .before .before
+at-start c = c .before .before .before .before
 
 none-left-requires : tie.Need-none-left-requires
 none-left-requires c κs = search needs
 
 returns : tie.Need-returns
-returns c = (year-none _ _ _ _ _ _ _ (c .before .if1 .taken) (c .none-left .ensures .0), (tt, tt))
+returns c = (year-none _ _ _ _ _ _ _ _ (c .before .if1 .taken) (c .none-left .ensures .0), (tt, tt))
 
 begun-requires : tie.Need-begun-requires
 begun-requires c κs = search needs
@@ -35,7 +35,7 @@ returns-2 c =
     let begun = c .before in
     let (says, room) = begun .begun .ensures in
     let a = at-start begun .args in
-    (year-no _ _ _ _ _ (a .s .now) (a .at) _ says (begun .before .if1 .left) (c .if2 .taken), (tt, tt))
+    (year-no _ _ _ _ _ _ (a .s .now) (a .at) _ says (begun .before .if1 .left) (c .if2 .taken), (tt, tt))
 
 add-field16 : tie.Need-add-field16
 add-field16 c = search needs
@@ -49,7 +49,7 @@ returns-3 c =
     let begun = at-begun year in
     let (says, room) = begun .begun .ensures in
     let (read, below) = year .field16 .ensures in
-    (year-other _ _ _ _ _ _ _ _ says (year .before .if2 .left) (begun .before .if1 .left) _ _ read refl (c .if3 .taken), (tt, tt))
+    (year-other _ _ _ _ _ _ _ _ _ says (year .before .if2 .left) (begun .before .if1 .left) _ _ read refl (c .if3 .taken), (tt, tt))
 
 add-field16-2 : tie.Need-add-field16-2
 add-field16-2 c = search needs
@@ -71,7 +71,7 @@ returns-4 c =
     let begun = at-begun year in
     let (says, room) = begun .begun .ensures in
     let due = sym (days .before .if3 .left) ∙ year .field16 .ensures .0 in
-    let wrong = days-wrong _ _ _ _ _ _ _ _ says (year .before .if2 .left) (begun .before .if1 .left) _ _ due (days .field162 .ensures .0) in
+    let wrong = days-wrong _ _ _ _ _ _ _ _ _ says (year .before .if2 .left) (begun .before .if1 .left) _ _ due (days .field162 .ensures .0) in
     (wrong refl _ (at-outside .before .days-in-year .ensures) _ (at-outside .outside .ensures) (c .if4 .taken), (tt, tt))
 
 add-read-tables : tie.Need-add-read-tables
@@ -90,11 +90,11 @@ returns-5 c =
     let some = begun .before .if1 .left in
     let due = sym (days .before .if3 .left) ∙ year .field16 .ensures .0 in
     let most = at-outside .before .days-in-year .ensures in
-    let right = days-right _ _ _ _ _ _ _ _ says (year .before .if2 .left) some _ _ due (days .field162 .ensures .0) in
+    let right = days-right _ _ _ _ _ _ _ _ _ says (year .before .if2 .left) some _ _ due (days .field162 .ensures .0) in
     let inside = not-outside _ _ _ (sym (at-outside .outside .ensures) ∙ c .before .if4 .left) in
     let (tables, fitting) = c .read-tables .ensures in (
       tables ∙ right refl _ most _ (at-outside .outside .ensures) (c .before .if4 .left),
-      (fitting, fits _ (at-start begun .args .s .now) (c .read-tables .result) _ _ _ _ _ tables some (calendar-days _ _ most (inside .most))),
+      (fitting, fits _ _ (at-start begun .args .s .now) (c .read-tables .result) _ _ _ _ _ tables some (calendar-days _ _ most (inside .most))),
     )
 
 pub read-year-spec : {M : Type 1} → statement M

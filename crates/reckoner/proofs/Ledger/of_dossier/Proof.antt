@@ -1,124 +1,53 @@
--- `reckoner::Ledger::of_dossier` meets its contract: the opening is read, all its years are given, and EN follows them.
+-- `reckoner::Ledger::of_dossier` meets its contract: the plan is judged, and then the dossier under it.
 -- Assumes nothing.
-use mathlib.Core.Path.{_≡_}
-use lib.ListN.{drop}
+use mathlib.Core.Path.{_∙_}
 use borrow.Author.Needs.{needs}
 use Rattle.wire.specs.Bytes.{Bytes}
-use Rattle.reckoner.specs.declared.Step.{Step}
-use Rattle.reckoner.specs.Calls.{dossierCall}
-use Rattle.reckoner.proofs.OpenLaws.{inside, refused-handed, newly-opened}
-use Rattle.reckoner.proofs.DossierLaws.{dossier-no, dossier-is, dossier-handed, yearsCall, years-no, years-fault, years-yes}
+use Rattle.reckoner.proofs.GivenLaws.{plan-refused}
+use Rattle.reckoner.proofs.DossierLaws.{plan-no, dossier-handed}
 use Rattle.reckoner.proofs.Ledger.of_dossier.Statement.{statement}
 use Rattle.reckoner.proofs.Ledger.of_dossier.Tie as tie
 
--- the places: the opening's answer, the opening itself, the lent bytes and the start
-abbrev at-answer : tie.After-new-ledger → tie.After-answer2
-at-answer c = c .before .before
+-- the places: the plan read; both lent slices; the start
+abbrev at-slices : tie.After-read-plan → tie.After-shared-slice-known2
+at-slices c = c .before .before
 
-abbrev at-opening : tie.After-answer2 → tie.After-read-opening
-at-opening c = c .before .before .before .before
+abbrev at-start : tie.After-read-plan → tie.Start
+at-start c = at-slices c .before .before
 
-abbrev at-start : tie.After-read-opening → tie.Start
-at-start c = c .before .before
+bytes-lent : (c : tie.After-read-plan) → Bytes (at-start c .args .dossier .now) × Bytes (at-start c .args .plan .now)
+bytes-lent c = let w = at-slices c in ((λ k. w .before .shared-slice-known .given k .fits), λ k. w .shared-slice-known2 .given k .fits)
 
-lent : (c : tie.After-read-opening) → Bytes (at-start c .args .dossier .now)
-lent c k = c .before .shared-slice-known .given k .fits
+read-plan-requires : tie.Need-read-plan-requires
+read-plan-requires c κs = search needs
 
--- what becomes of the years is what becomes of the dossier
-as-dossier : (c : tie.After-new-ledger) (r : Step)
-    → r ≡ yearsCall (c .new-ledger .result) (drop (at-answer c .answer2 .given .0 .0) (at-start (at-opening (at-answer c)) .args .dossier .now))
-    → r ≡ dossierCall (at-start (at-opening (at-answer c)) .args .dossier .now)
-as-dossier c r e =
-    let at-read = at-answer c in
-    dossier-is _ _ (at-opening at-read .read-opening .ensures .0) _ (at-read .answer2 .given .1) _ (c .new-ledger .ensures) r e
-
-read-opening-requires : tie.Need-read-opening-requires
-read-opening-requires c κs = search needs
-
-enum-known-answer : tie.Need-enum-known-answer
-enum-known-answer c = search needs
+enum-known-n : tie.Need-enum-known-n
+enum-known-n c = search needs
 
 refused-opening-requires : tie.Need-refused-opening-requires
 refused-opening-requires c κs = search needs
 
-enum-known-answer-2 : tie.Need-enum-known-answer-2
-enum-known-answer-2 c = search needs
+enum-known-planned : tie.Need-enum-known-planned
+enum-known-planned c = search needs
 
-new-ledger-requires : tie.Need-new-ledger-requires
-new-ledger-requires c κs = search needs
-
-give-years-requires : tie.Need-give-years-requires
-give-years-requires c κs =
-    let read = at-answer c .answer2 .given .1 in
-    let opening = at-opening (at-answer c) in
-    let (says, within) = opening .read-opening .ensures in
-    (inside _ _ says _ read within, newly-opened _ _ says _ read (lent opening) _ (c .new-ledger .ensures))
-
-enum-known-answer-3 : tie.Need-enum-known-answer-3
-enum-known-answer-3 c = search needs
-
-refused-opening-requires-2 : tie.Need-refused-opening-requires-2
-refused-opening-requires-2 c κs = search needs
-
-enum-known-answer-4 : tie.Need-enum-known-answer-4
-enum-known-answer-4 c = search needs
-
-read-end-requires : tie.Need-read-end-requires
-read-end-requires c κs =
-    let at-next = c .before in
-    rw (at-next .answer4 .given .1) at (at-next .before .before .before .give-years .ensures .1)
-
-refused-opening-requires-3 : tie.Need-refused-opening-requires-3
-refused-opening-requires-3 c κs = search needs
+give-dossier-requires : tie.Need-give-dossier-requires
+give-dossier-requires c κs =
+    let at-answer = c .before .before in
+    rw (at-answer .planned .given .1) at (at-answer .before .before .read-plan .ensures)
 
 returns : tie.Need-returns
 returns c =
-    let at-end = c .before .before in
-    let at-next = at-end .before .before in
-    let at-years = at-next .before .before .before in
-    let at-new = at-years .before in
-    let fault = years-fault _ _ _ (at-new .new-ledger .ensures) _ _ _ (at-years .give-years .ensures .0) _ (at-next .answer4 .given .1) _ (at-end .read-end .ensures) (c .before .if1 .taken) in
-    refused-handed _ _ _ (c .refused-opening3 .ensures) (as-dossier at-new _ fault)
+    let at-answer = c .before .before in
+    let at-read = at-answer .before .before in
+    let (dossier, plan) = bytes-lent at-read in
+    let said = plan-refused (at-start at-read .args .plan .now) _ _ (rw (at-answer .n .given .1) at (at-read .read-plan .ensures)) in
+    dossier-handed _ _ dossier plan _ (c .refused-opening .ensures ∙ plan-no _ _ _ said)
 
 returns-2 : tie.Need-returns-2
 returns-2 c =
-    let at-no = c .before .before in
-    let opening = at-no .before .before .before .before in
-    refused-handed _ _ _ (c .refused-opening .ensures) (dossier-no _ _ (opening .read-opening .ensures .0) _ (at-no .answer .given .1))
-
-returns-3 : tie.Need-returns-3
-returns-3 c =
-    let at-no = c .before .before in
-    let at-years = at-no .before .before .before in
-    let at-new = at-years .before in
-    let fault = years-no _ _ _ (at-new .new-ledger .ensures) _ _ _ (at-years .give-years .ensures .0) _ (at-no .answer3 .given .1) in
-    refused-handed _ _ _ (c .refused-opening2 .ensures) (as-dossier at-new _ fault)
-
-returns-4 : tie.Need-returns-4
-returns-4 c =
-    let at-end = c .before in
-    let at-next = at-end .before .before in
-    let at-years = at-next .before .before .before in
-    let at-new = at-years .before in
-    let taken = years-yes _ _ _ (at-new .new-ledger .ensures) _ _ _ (at-years .give-years .ensures .0) _ (at-next .answer4 .given .1) _ (at-end .read-end .ensures) (c .if1 .left) in
-    dossier-handed _ (lent (at-opening (at-answer at-new))) _ (as-dossier at-new _ taken)
+    let (dossier, plan) = bytes-lent (c .before .before .before .before .before) in
+    dossier-handed _ _ dossier plan _ (c .give-dossier .ensures)
 
 pub of-dossier-spec : {M : Type 1} → statement M
 of-dossier-spec =
-    tie.close
-    (tie.spec
-    read-opening-requires
-    enum-known-answer
-    refused-opening-requires
-    enum-known-answer-2
-    new-ledger-requires
-    give-years-requires
-    enum-known-answer-3
-    refused-opening-requires-2
-    enum-known-answer-4
-    read-end-requires
-    refused-opening-requires-3
-    returns
-    returns-2
-    returns-3
-    returns-4)
+    tie.close (tie.spec read-plan-requires enum-known-n refused-opening-requires enum-known-planned give-dossier-requires returns returns-2)

@@ -1,63 +1,50 @@
--- `reckoner::Ledger::year` meets its contract: one year is given, and the piece ends there.
+-- `reckoner::Ledger::year` meets its contract: the plan is judged, and then the piece under it.
 -- Assumes nothing.
-use native.Mathlib.Omega.{arith}
 use borrow.Author.Needs.{needs}
 use Rattle.wire.specs.Bytes.{Bytes}
-use Rattle.reckoner.proofs.YearLaws.{year-no, year-fault, year-yes, year-handed}
+use Rattle.reckoner.proofs.GivenLaws.{plan-refused}
+use Rattle.reckoner.proofs.YearLaws.{plan-no, year-handed}
 use Rattle.reckoner.proofs.Ledger.year.Statement.{statement}
 use Rattle.reckoner.proofs.Ledger.year.Tie as tie
 
--- the start, behind the lent piece
-abbrev at-start : tie.After-give-years → tie.Start
-at-start c = c .before .before
+-- the places: the plan read; both lent slices; the start
+abbrev at-slices : tie.After-read-plan → tie.After-shared-slice-known2
+at-slices c = c .before .before
 
-lent : (c : tie.After-give-years) → Bytes (at-start c .args .piece .now)
-lent c k = c .before .shared-slice-known .given k .fits
+abbrev at-start : tie.After-read-plan → tie.Start
+at-start c = at-slices c .before .before
 
-give-years-requires : tie.Need-give-years-requires
-give-years-requires c κs = (omega arith, c .before .pre)
+bytes-lent : (c : tie.After-read-plan) → Bytes (at-start c .args .piece .now) × Bytes (at-start c .args .plan .now)
+bytes-lent c = let w = at-slices c in ((λ k. w .before .shared-slice-known .given k .fits), λ k. w .shared-slice-known2 .given k .fits)
 
-enum-known-answer : tie.Need-enum-known-answer
-enum-known-answer c = search needs
+read-plan-requires : tie.Need-read-plan-requires
+read-plan-requires c κs = search needs
 
-enum-known-answer-2 : tie.Need-enum-known-answer-2
-enum-known-answer-2 c = search needs
+enum-known-n : tie.Need-enum-known-n
+enum-known-n c = search needs
 
-end-of-piece-requires : tie.Need-end-of-piece-requires
-end-of-piece-requires c κs =
-    let at-answer = c .before in
-    rw (at-answer .answer2 .given .1) at (at-answer .before .before .before .give-years .ensures .1)
+enum-known-planned : tie.Need-enum-known-planned
+enum-known-planned c = search needs
+
+give-piece-requires : tie.Need-give-piece-requires
+give-piece-requires c κs =
+    let at-answer = c .before .before in
+    let at-read = at-answer .before .before in
+    (at-start at-read .pre, rw (at-answer .planned .given .1) at (at-read .read-plan .ensures))
 
 returns : tie.Need-returns
 returns c =
-    let at-end = c .before in
-    let at-answer = at-end .before .before in
-    let g = at-answer .before .before .before in
-    let fault = year-fault _ _ _ (g .give-years .ensures .0) _ (at-answer .answer2 .given .1) _ (at-end .end-of-piece .ensures) (c .if1 .taken) in
-    year-handed _ _ _ (at-start g .pre) (lent g) fault
+    let at-answer = c .before in
+    let at-read = at-answer .before .before in
+    let (piece, plan) = bytes-lent at-read in
+    let said = plan-refused (at-start at-read .args .plan .now) _ _ (rw (at-answer .n .given .1) at (at-read .read-plan .ensures)) in
+    year-handed _ _ _ _ (at-start at-read .pre) piece plan (plan-no _ _ _ _ said)
 
 returns-2 : tie.Need-returns-2
 returns-2 c =
-    let at-answer = c .before in
-    let g = at-answer .before .before .before in
-    year-handed _ _ _ (at-start g .pre) (lent g) (year-no _ _ _ (g .give-years .ensures .0) _ (at-answer .answer .given .1))
-
-returns-3 : tie.Need-returns-3
-returns-3 c =
-    let at-end = c .before in
-    let at-answer = at-end .before .before in
-    let g = at-answer .before .before .before in
-    let taken = year-yes _ _ _ (g .give-years .ensures .0) _ (at-answer .answer2 .given .1) _ (at-end .end-of-piece .ensures) (c .if1 .left) in
-    year-handed _ _ _ (at-start g .pre) (lent g) taken
+    let at-read = c .before .before .before .before .before in
+    let (piece, plan) = bytes-lent at-read in
+    year-handed _ _ _ _ (at-start at-read .pre) piece plan (c .give-piece .ensures)
 
 pub year-spec : {M : Type 1} → statement M
-year-spec =
-    tie.close
-    (tie.spec
-    give-years-requires
-    enum-known-answer
-    enum-known-answer-2
-    end-of-piece-requires
-    returns
-    returns-2
-    returns-3)
+year-spec = tie.close (tie.spec read-plan-requires enum-known-n enum-known-planned give-piece-requires returns returns-2)

@@ -1,0 +1,3 @@
+pub mod YearLaws
+pub mod PlanLaws
+pub mod FindLaws
