@@ -1,8 +1,8 @@
 /* Fuzzes the calls for C: a refusal leaves the buffer as it was, bytes beyond the report and beyond the buffer keep their
  * content, number and report are the plain reckoner's, and the call that takes no plan is the other one with none.
  *
- * The input is a length of 16 bits, a plan of that length and a dossier. Where that length passes the longest plan's it is
- * a dossier alone, as every file that begins with HD. */
+ * The input is a length of 16 bits, a plan of that length and a dossier. Where that length passes the longest plan's by more
+ * than a record it is a dossier alone, as every file that begins with HD. */
 #include "kh_am004.h"
 #include "plain.h"
 #include <stdlib.h>

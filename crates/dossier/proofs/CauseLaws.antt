@@ -6,7 +6,7 @@ use mathlib.Core.Bool.{Bool, true, false, cond}
 use mathlib.Core.Logic.{inl, inr}
 use mathlib.Core.List.{List, [], _∷_, _++_}
 use lib.Dec.{T, eqb, eqb→eq, ltb, ltb→lt}
-use Rattle.dossier.specs.Causes.{causes, openingCauses, yearCauses, _∈_}
+use Rattle.dossier.specs.Causes.{planNotOfForm, causes, openingCauses, yearCauses, _∈_}
 
 -- whether n is one of these
 abbrev pub member : ℕ → List ℕ → Bool
@@ -46,7 +46,14 @@ allPositive l = each (λ n. ltb 0 n) l
 pub positive : (l : List ℕ) → T (allPositive l) → (n : ℕ) → n ∈ l → 0 < n
 positive l t n h = ltb→lt 0 n (passes (λ n. ltb 0 n) l t n h)
 
--- ---- the causes of a dossier: those of its opening and of its years, which are all of the table but the buffer's
+-- ---- no cause but the plan's has the number 12
+abbrev pub noneOfPlan : List ℕ → Bool
+noneOfPlan l = each (λ n. cond (eqb n planNotOfForm) false true) l
+
+pub not-of-plan : (l : List ℕ) → T (noneOfPlan l) → planNotOfForm ∈ l → ⊥
+not-of-plan l t h = passes (λ n. cond (eqb n planNotOfForm) false true) l t planNotOfForm h
+
+-- ---- the causes of a dossier: those of its opening and of its years, which are all of the table but the plan's and the buffer's
 abbrev pub dossierCauses : List ℕ
 dossierCauses = openingCauses ++ yearCauses
 
@@ -56,5 +63,5 @@ opening-part = part openingCauses dossierCauses tt
 pub year-part : (n : ℕ) → n ∈ yearCauses → n ∈ dossierCauses
 year-part = part yearCauses dossierCauses tt
 
-pub dossier-part : (n : ℕ) → n ∈ dossierCauses → n ∈ causes
-dossier-part = part dossierCauses causes tt
+pub dossier-part : (n : ℕ) → n ∈ (planNotOfForm ∷ dossierCauses) → n ∈ causes
+dossier-part = part (planNotOfForm ∷ dossierCauses) causes tt

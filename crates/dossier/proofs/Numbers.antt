@@ -4,11 +4,11 @@ use Prim.Native.Nat.{ℕ}
 use mathlib.Core.Path.{_≡_, refl, _∙_, ap, sym}
 use mathlib.Core.Logic.{_↔_}
 use mathlib.Core.Option.{Option}
-use mathlib.Core.List.{List, []}
+use mathlib.Core.List.{List, [], _∷_}
 use native.Mathlib.Omega.{arith}
 use lib.Dec.{T}
 use Rattle.wire.specs.Bytes.{Bytes}
-use Rattle.dossier.specs.Causes.{openingCauses, yearCauses}
+use Rattle.dossier.specs.Causes.{planNotOfForm, openingCauses, yearCauses}
 use Rattle.dossier.specs.Plan.{Plan, PlanLent, planBytes}
 use Rattle.dossier.specs.Records.{bytesIfAny, Due, WellFormedOpening, WellFormedYear, WellFormedPlan}
 use Rattle.dossier.specs.Claims.{DueInRange, numberOf, AcceptedExactly}
@@ -66,4 +66,4 @@ under-zero {A} {judge} {Q} {e} x allowed some causes s planned b bp = (there, ba
 
 pub year-zero : (due : Option Plan → Due) → ((p : Option Plan) → PlanLent p → DueInRange (due p)) → (s planned : List ℕ) → Bytes s → Bytes planned
     → ((p : Option Plan) × WellFormedPlan p planned × WellFormedYear (due p) s) ↔ (numberOf (under planned (λ p. yearPiece (due p)) s) ≡ 0)
-year-zero due h = under-zero (λ p lent. year-accepted (due p) (h p lent)) yearCauses tt (yearPiece-under-causes due)
+year-zero due h = under-zero (λ p lent. year-accepted (due p) (h p lent)) (planNotOfForm ∷ yearCauses) tt (yearPiece-under-causes due)

@@ -28,7 +28,7 @@ use Rattle.dossier.specs.Causes.{
 }
 use Rattle.dossier.specs.Marks.{ST, YR, PL, EN}
 use Rattle.dossier.specs.Layouts.{Made, Layout, layouts}
-use Rattle.dossier.specs.Records.{Due, next}
+use Rattle.dossier.specs.Records.{Due, next, figuresFor}
 use Rattle.dossier.specs.Reader.{Reader, _>>=_, _>>_, give, refuse, mark, is, upon, ifAny, present, begin, field, fields, outside, within, equal, holds, nothing}
 use Rattle.dossier.specs.JudgingRecords.{head, each, stocks, stocksIfAny, areas, matrix, matrixUnder, conversions, inRange, madeFrom, fieldsOf, rowUnder, activityMark, activityUnder, activity}
 use Rattle.dossier.specs.Judging.{opening, run, activities, fromThePlan, taken, noneLeft, yearRecords, yearLeft, allowed, year, end, years}
@@ -184,7 +184,7 @@ module _ (Allowed : ℕ → Type 0) (P : (A : Type 0) → ℕ → Reader A → T
 
     pub a-year : (due : Due) → P _ 3216 (year due)
     unfolding year holds give refuse
-    a-year due = c .bind (years-records _ _ _ _ _) (λ y. seq (tested (allowed due y) (c .give tt) (c .refuse plannedYearWrong (of-year tt))) (c .give y))
+    a-year due = c .bind (years-records _ _ _ _ _) (λ y. seq (tested (allowed (y .planned) (figuresFor due y)) (c .give tt) (c .refuse plannedYearWrong (of-year tt))) (c .give y))
 
     -- k years; then EN and a byte after it, or YR with its fields
     pub some-years : (k : ℕ) (due : Due) (before : List Year) → P _ (k * 3216 + 6) (years k due before)

@@ -124,21 +124,21 @@ left-exact due h = go (eqb (due .state .left) 0) (eqb-true _ _) (eqb-false _ _)
     go false e f = year-due-exact due h (some-left (f refl))
 
 -- 13 is no cause where the figures are small, or the records the year's own
-allowed-small : (due : Due) (y : Year) → allowed due y ≡ true → y .planned ≡ true → smallActivity (figuresFor due y) ≡ true
+allowed-small : (due : Due) (y : Year) → allowed (y .planned) (figuresFor due y) ≡ true → y .planned ≡ true → smallActivity (figuresFor due y) ≡ true
 allowed-small due y e p = go (y .planned) p e
   where
     go : (b : Bool) → b ≡ true → cond b (smallActivity (figuresFor due y)) true ≡ true → smallActivity (figuresFor due y) ≡ true
     go true p e = e
     go false p e = let z : _≡_ {A = ℕ} 0 1 = cc in absurd (omega arith)
 
-pub large-refused : (due : Due) (y : Year) → y .planned ≡ true → smallActivity (figuresFor due y) ≡ false → allowed due y ≡ false
+pub large-refused : (due : Due) (y : Year) → y .planned ≡ true → smallActivity (figuresFor due y) ≡ false → allowed (y .planned) (figuresFor due y) ≡ false
 large-refused due y p e = go (y .planned) p
   where
     go : (b : Bool) → b ≡ true → cond b (smallActivity (figuresFor due y)) true ≡ false
     go true p = e
     go false p = let z : _≡_ {A = ℕ} 0 1 = cc in absurd (omega arith)
 
-small-allowed : (due : Due) (y : Year) → (y .planned ≡ true → smallActivity (figuresFor due y) ≡ true) → allowed due y ≡ true
+small-allowed : (due : Due) (y : Year) → (y .planned ≡ true → smallActivity (figuresFor due y) ≡ true) → allowed (y .planned) (figuresFor due y) ≡ true
 small-allowed due y f = go (y .planned) f
   where
     go : (b : Bool) → (b ≡ true → smallActivity (figuresFor due y) ≡ true) → cond b (smallActivity (figuresFor due y)) true ≡ true
@@ -147,9 +147,9 @@ small-allowed due y f = go (y .planned) f
 
 pub year-exact : (due : Due) → DueInRange due → Exact 0 Any (year due) yearBytes (YearThen due)
 unfolding year
-year-exact due h = restated to from (checked _ (allowed due) (left-exact due h))
+year-exact due h = restated to from (checked _ (λ y. allowed (y .planned) (figuresFor due y)) (left-exact due h))
   where
-    to : (y : Year) (t : List ℕ) → LeftThen due y t × (allowed due y ≡ true) → YearThen due y t
+    to : (y : Year) (t : List ℕ) → LeftThen due y t × (allowed (y .planned) (figuresFor due y) ≡ true) → YearThen due y t
     to y t ((p, f), a) = let q = p .tables in (
       record {
         left = q .left;
@@ -163,7 +163,7 @@ year-exact due h = restated to from (checked _ (allowed due) (left-exact due h))
       f,
     )
 
-    from : (y : Year) (t : List ℕ) → YearThen due y t → LeftThen due y t × (allowed due y ≡ true)
+    from : (y : Year) (t : List ℕ) → YearThen due y t → LeftThen due y t × (allowed (y .planned) (figuresFor due y) ≡ true)
     from y t (p, f) = ((record { tables = tables-of due y p; records = p .records }, f), small-allowed due y (p .small))
 
 -- a year begins with YR

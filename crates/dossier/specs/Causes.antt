@@ -69,10 +69,9 @@ causes =
 abbrev pub openingCauses : List ℕ
 openingCauses = bytesMissing ∷ markNotDue ∷ headOutOfRange ∷ areaTotalWrong ∷ rowSumWrong ∷ stockOutOfRange ∷ []
 
--- the plan; YR, CP, CD, and the activity records or PL
+-- YR, CP, CD, and the activity records or PL; the cause of the plan, planNotOfForm, comes before these
 abbrev pub yearCauses : List ℕ
-yearCauses =
-    bytesMissing ∷ markNotDue ∷ yearWrong ∷ conversionTotalWrong ∷ activityOutOfRange ∷ tooManyActivities ∷ planNotOfForm ∷ plannedYearWrong ∷ []
+yearCauses = bytesMissing ∷ markNotDue ∷ yearWrong ∷ conversionTotalWrong ∷ activityOutOfRange ∷ tooManyActivities ∷ plannedYearWrong ∷ []
 
 -- a closing: the buffer's alone
 abbrev pub closingCauses : List ℕ

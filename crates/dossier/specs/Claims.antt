@@ -14,7 +14,7 @@ pub record AcceptedExactly {A : Type 0} (judge : Reader A) (InRange : A → Type
   pub sound : (s : List ℕ) → Bytes s → (a : A) (rest : List ℕ) → judge s ≡ accepted a rest → InRange a × (s ≡ encoded a) × (rest ≡ [])
   pub complete : (a : A) → InRange a → judge (encoded a) ≡ accepted a []
 
--- what is due can be said: in a year piece the year in 16 bits, totals of PA and DA in range; and in a plan
+-- what is due can be said: the year in 16 bits, the totals of PA and DA in range, and the plan, if one is lent, in range
 pub record DueInRange (due : Due) : Type 0 where
   pub year : due .state .year < 65_536
   pub start : due .terms .start .0 ≤ greatestArea

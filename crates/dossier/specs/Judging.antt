@@ -9,6 +9,7 @@ use lib.Dec.{eqb}
 use lib.ListN.{length}
 use Rattle.classes.specs.Calendar.{daysInYear}
 use Rattle.activity.specs.declared.Activity.{Activity}
+use Rattle.figures.specs.declared.Figures.{Figures}
 use Rattle.figures.specs.Year.{Year}
 use Rattle.figures.specs.Figures.{smallActivity}
 use Rattle.dossier.specs.Causes.{yearWrong, tooManyActivities, plannedYearWrong}
@@ -58,7 +59,8 @@ noneLeft = do
   begin YR 4
   refuse yearWrong
 
--- "year not the next, none left, or d wrong": 6; the records of the year that is due, for the totals of PA and DA
+-- "year not the next, none left, or d wrong": 6; the records of the year that is due, for the totals of PA and DA; fromPlan is what the plan has
+-- for that year
 unfoldable pub yearRecords : (fromPlan : Option (List Activity)) (dueYear start beltstart : ℕ) → Reader Year
 yearRecords fromPlan dueYear start beltstart = do
   begin YR 4
@@ -83,14 +85,14 @@ unfoldable pub yearLeft : (fromPlan : Option (List Activity)) (dueYear left star
 yearLeft fromPlan dueYear left start beltstart = cond (eqb left 0) noneLeft (yearRecords fromPlan dueYear start beltstart)
 
 -- #103, "The year must satisfy 20 × activity < project + displaced + activity", where PL stands
-abbrev pub allowed : Due → Year → Bool
-allowed due y = cond (y .planned) (smallActivity (figuresFor due y)) true
+abbrev pub allowed : (planned : Bool) → Figures → Bool
+allowed planned figures = cond planned (smallActivity figures) true
 
 -- a year, for what is due; "13 right after PL", before what follows is looked at
 unfoldable pub year : Due → Reader Year
 year due = do
   y ← yearLeft (recordsFor (due .plan) (due .state .year)) (due .state .year) (due .state .left) (due .terms .start .0) (due .terms .beltstart .0)
-  holds plannedYearWrong (allowed due y)
+  holds plannedYearWrong (allowed (y .planned) (figuresFor due y))
   give y
 
 -- "EN is due only after n years; YR stays due there and gives 6"; "mark not due here, or bytes after EN": 2

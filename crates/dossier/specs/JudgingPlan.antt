@@ -45,6 +45,6 @@ plan s = renumbered planNotOfForm (planYears 20 0 [] s)
 unfoldable pub lentPlan : Reader (Option Plan)
 lentPlan = ifAny (λ s. ltb 0 (length s)) plan
 
--- "judged before dossier or piece": other bytes, judged under the plan that these are
-unfoldable pub under : {A : Type 0} (planned : List ℕ) → (Option Plan → Reader A) → Reader A
-under planned judge s = after (lentPlan planned) (λ p _. judge p s)
+-- "judged before dossier or piece": s judged under the plan that the lent bytes are; what is wrong with these comes first
+unfoldable pub under : {A : Type 0} (lent : List ℕ) → (Option Plan → Reader A) → Reader A
+under lent judge s = after (lentPlan lent) (λ p _. judge p s)

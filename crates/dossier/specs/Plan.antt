@@ -42,7 +42,7 @@ pub record PlanInRange (plan : Plan) : Type 0 where
 unfoldable pub planBytes : Plan → List ℕ
 planBytes plan = joined (joined (map planYearBytes plan) ∷ bytes 2 EN ∷ [])
 
--- lent or not
+-- a plan in range, or none
 abbrev pub PlanLent : Option Plan → Type 0
 PlanLent none = Unit {0}
 PlanLent (some plan) = PlanInRange plan

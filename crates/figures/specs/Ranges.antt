@@ -22,7 +22,7 @@ SmallYear c = SmallCarbon (c .projected .0) × SmallCarbon (c .monitored .0)
 abbrev pub DaysOf : YearDays → Type 0
 DaysOf days = (days .operating ≤ days .calendar) × (0 < days .calendar) × (days .calendar ≤ 366)
 
--- the figures by which a year with planned quantities is judged
+-- the figures by which a year with planned quantities is judged, small enough for 64 bits
 abbrev pub SmallNet : Figures → Type 0
 SmallNet f = (mag (f .project .0) < greatestFigure) × (mag (f .activity .0) < greatestFigure) × (mag (f .displaced .0) < greatestFigure)
 

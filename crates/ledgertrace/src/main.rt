@@ -27,7 +27,7 @@ const CLOSE: u8 = b'C';
 // The ledger, the length of the plan, and how many more calls the list may have: none once it has ended.
 struct Trace {
     ledger: Ledger,
-    planned: usize,
+    lent: usize,
     left: u64,
 }
 
@@ -46,7 +46,7 @@ fn print_answer(word: &[u8], answer: Answer)
 }
 
 fn trace_open(mut trace: Trace, piece: &[u8]) -> Trace
-    ensures { λ r. ⌜ HandedBack (r .ledger) × (r .planned ≡ trace .planned) × (r .left ≡ trace .left) ⌝ }
+    ensures { λ r. ⌜ HandedBack (r .ledger) × (r .lent ≡ trace .lent) × (r .left ≡ trace .left) ⌝ }
 {
     let step = Ledger::open(piece);
     let ledger = step.ledger;
@@ -58,7 +58,7 @@ fn trace_open(mut trace: Trace, piece: &[u8]) -> Trace
 
 fn trace_year<'a>(mut trace: Trace, piece: &'a [u8], plan: &'a [u8]) -> Trace
     requires { ⌜ HandedBack (trace .ledger) ⌝ }
-    ensures { λ r. ⌜ HandedBack (r .ledger) × (r .planned ≡ trace .planned) × (r .left ≡ trace .left) ⌝ }
+    ensures { λ r. ⌜ HandedBack (r .ledger) × (r .lent ≡ trace .lent) × (r .left ≡ trace .left) ⌝ }
 {
     let before = trace.ledger;
     let step = before.year(piece, plan);
@@ -81,7 +81,7 @@ fn print_closing(n: u8, result: &[u8], end: usize)
 
 fn trace_close(mut trace: Trace, result: &mut [u8]) -> Trace
     requires { ⌜ HandedBack (trace .ledger) ⌝ }
-    ensures { λ r. ⌜ HandedBack (r .ledger) × (r .planned ≡ trace .planned) × (r .left ≡ trace .left) ⌝ }
+    ensures { λ r. ⌜ HandedBack (r .ledger) × (r .lent ≡ trace .lent) × (r .left ≡ trace .left) ⌝ }
 {
     let before = trace.ledger;
     let step = before.close(result);
@@ -98,9 +98,9 @@ fn trace_close(mut trace: Trace, result: &mut [u8]) -> Trace
 // Reads the plan that the years after it are lent; the list ends where it is cut.
 fn trace_plan(mut trace: Trace, plan: &mut [u8]) -> Trace
     requires { ⌜ HandedBack (trace .ledger) ⌝ }
-    ensures { λ r. ⌜ HandedBack (r .ledger) × (r .planned ≡ length (now (plan .entry))) × (r .left ≤ trace .left) ⌝ }
+    ensures { λ r. ⌜ HandedBack (r .ledger) × (r .lent ≡ length (now (plan .entry))) × (r .left ≤ trace .left) ⌝ }
 {
-    trace.planned = plan.len();
+    trace.lent = plan.len();
     if !console::read_piece(plan) {
         trace.left = 0;
     }
@@ -110,8 +110,8 @@ fn trace_plan(mut trace: Trace, plan: &mut [u8]) -> Trace
 // The next call of the list, if it is whole.
 fn trace_call(mut trace: Trace, plan: &mut [u8]) -> Trace
     requires { ⌜ HandedBack (trace .ledger) × (0 < trace .left) ⌝ }
-    requires { ⌜ (length (now plan) ≡ 65536) × (trace .planned ≤ 65536) ⌝ }
-    ensures { λ r. ⌜ HandedBack (r .ledger) × (r .planned ≤ 65536) × (r .left < trace .left) ⌝ }
+    requires { ⌜ (length (now plan) ≡ 65536) × (trace .lent ≤ 65536) ⌝ }
+    ensures { λ r. ⌜ HandedBack (r .ledger) × (r .lent ≤ 65536) × (r .left < trace .left) ⌝ }
 {
     let mark = console::read_byte();
     let length = console::read_length();
@@ -129,8 +129,8 @@ fn trace_call(mut trace: Trace, plan: &mut [u8]) -> Trace
             return trace_open(trace, &space[..length]);
         }
         if is_whole && mark == YEAR {
-            let planned = trace.planned;
-            return trace_year(trace, &space[..length], &plan[..planned]);
+            let lent = trace.lent;
+            return trace_year(trace, &space[..length], &plan[..lent]);
         }
     }
     trace.left = 0;
@@ -143,7 +143,7 @@ fn main() {
     let mut plan = io::large_buffer();
     let mut trace = Trace {
         ledger,
-        planned: 0,
+        lent: 0,
         left: u64::MAX,
     };
     while trace.left > 0 {

@@ -9,7 +9,7 @@ use native.Mathlib.Omega.{arith}
 use lib.ListN.{length, take}
 use borrow.Author.Tests.{ne-eqb}
 use Rattle.figures.specs.Year.{Year}
-use Rattle.dossier.specs.Causes.{yearCauses}
+use Rattle.dossier.specs.Causes.{planNotOfForm, yearCauses}
 use Rattle.wire.specs.Bytes.{Bytes}
 use Rattle.dossier.specs.Plan.{Plan, PlanLent}
 use Rattle.dossier.specs.Records.{YearInRange}
@@ -43,13 +43,14 @@ unfolding called yearCall broughtYear
 brought-when l piece plan = go (judgedAs piece plan l) refl
   where
     go : (j : Judged Year) → judgedAs piece plan l ≡ j → (answerNumber (yearJudged l j .answer) ≡ 0) ↔ (length (judgedYear j) ≡ 1)
-    go (refused n) e = let c = positive yearCauses tt n (yearPiece-under-causes (λ p. dueOf p l) plan piece n e) in ((λ z. absurd (omega arith)), λ z. absurd (omega arith))
+    go (refused n) e = let c = positive (planNotOfForm ∷ yearCauses) tt n (yearPiece-under-causes (λ p. dueOf p l) plan piece n e) in ((λ z. absurd (omega arith)), λ z. absurd (omega arith))
     go (accepted y rest) e = ((λ z. refl), λ z. refl)
 
 -- ---- by the verdict on a call
 -- what a call does, by the verdict on it: a year that is brought is given and stands; otherwise the ledger stays and nothing stands
 pub data Verdict (c : Call) (l : Ledger) : Type 0 where
-  brings : (y : Year) → ((p : Option Plan) × PlanLent p × YearInRange (dueOf p l) y) → broughtYear c l ≡ y ∷ [] → afterCall c l ≡ givenYear y l → standingCall c (called c l .answer) ≡ c ∷ [] → Verdict c l
+  brings : (y : Year) → ((p : Option Plan) × PlanLent p × YearInRange (dueOf p l) y) → broughtYear c l ≡ y ∷ [] → afterCall c l ≡ givenYear y l
+      → standingCall c (called c l .answer) ≡ c ∷ [] → Verdict c l
   nothing : broughtYear c l ≡ [] → afterCall c l ≡ l → standingCall c (called c l .answer) ≡ [] → Verdict c l
 
 -- an accepted year call brings its year, gives it, and stands
@@ -70,8 +71,9 @@ giving-verdict : (piece plan : List ℕ) (l : Ledger) (j : Judged Year) → judg
     → ((y : Year) (rest : List ℕ) → j ≡ accepted y rest → (p : Option Plan) × PlanLent p × YearInRange (dueOf p l) y) → Verdict (giving piece plan) l
 unfolding broughtYear afterCall called yearCall
 giving-verdict piece plan l (refused n) e h =
-    nothing (ap judgedYear e) (ap (λ (j : Judged Year). yearJudged l j .ledger) e)
-    (ap (λ (j : Judged Year). standingCall (giving piece plan) (yearJudged l j .answer)) e ∙ rw (ne-eqb n 0 (λ z. omega (arith, positive yearCauses tt n (yearPiece-under-causes (λ p. dueOf p l) plan piece n e)))))
+    let c = positive (planNotOfForm ∷ yearCauses) tt n (yearPiece-under-causes (λ p. dueOf p l) plan piece n e) in
+    let stand = ap (λ (j : Judged Year). standingCall (giving piece plan) (yearJudged l j .answer)) e in
+    nothing (ap judgedYear e) (ap (λ (j : Judged Year). yearJudged l j .ledger) e) (stand ∙ rw (ne-eqb n 0 (λ z. omega arith)))
 giving-verdict piece plan l (accepted y rest) e h =
     let t = taken piece plan l y rest e in
     brings y (h y rest refl) (t .brought) (t .after) (t .stand)

@@ -2,6 +2,7 @@
 -- Assumes nothing.
 use Prim.Native.Nat.{ℕ, _+_, _*_, _≤_}
 use mathlib.Core.Path.{_≡_, refl, _∙_, ap, sym}
+use mathlib.Core.Logic.{_↔_, inl, inr}
 use mathlib.Core.Option.{Option, none}
 use mathlib.Core.List.{List, []}
 use native.Mathlib.Omega.{arith}
@@ -10,24 +11,26 @@ use lib.Dec.{lit<}
 use lib.ListN.{length, replicate}
 use Rattle.wire.specs.Bytes.{Bytes}
 use Rattle.figures.specs.Year.{Year}
-use Rattle.dossier.specs.Causes.{planNotOfForm}
+use Rattle.dossier.specs.Causes.{planNotOfForm, yearCauses, closingCauses, ZeroOr}
 use Rattle.dossier.specs.Plan.{Plan}
-use Rattle.dossier.specs.Records.{Opening, Dossier, bytesIfAny, WellFormedPlan}
-use Rattle.dossier.specs.Reader.{Judged, refused, accepted}
+use Rattle.dossier.specs.Records.{Opening, Dossier, bytesIfAny}
+use Rattle.dossier.specs.Reader.{Judged, refused, accepted, Reader}
 use Rattle.dossier.specs.Judging.{dossier, openingPiece, yearPiece}
 use Rattle.dossier.specs.JudgingPlan.{lentPlan, under}
+use Rattle.dossier.proofs.CauseLaws.{dossierCauses}
+use Rattle.dossier.proofs.Causes.{yearPiece-causes, dossier-causes}
 use Rattle.dossier.proofs.WellFormed.{dossier-accepted, plan-accepted}
 use Rattle.dossier.proofs.PlanLaws.{lentPlan-refused}
-use Rattle.dossier.proofs.UnderLaws.{under-refused, no-plan}
+use Rattle.dossier.proofs.UnderLaws.{under-refused, under-none, no-plan}
 use Rattle.reckoner.specs.declared.Ledger.{Ledger}
 use Rattle.reckoner.specs.declared.Answer.{Answer}
-use Rattle.reckoner.specs.Ledger.{emptyLedger, dueOf}
+use Rattle.reckoner.specs.Ledger.{emptyLedger, dueOf, ledgerOf}
 use Rattle.reckoner.specs.Calls.{answered, said, answerNumber, openJudged, openCall, yearJudged, yearCall, closeCall, closeSays, closedBuffer, dossierCall, reckonSays, reckonNumber, reckonBuffer}
 use Rattle.reckoner.proofs.CloseLaws.{close-zero}
-use Rattle.reckoner.proofs.Numbers.{number-refused, number-zero, open-numbers, year-numbers, close-numbers, reckon-numbers}
+use Rattle.reckoner.proofs.Numbers.{number-refused, number-accepted, number-zero, open-numbers, year-numbers, close-numbers, reckon-numbers}
 use Rattle.sheet.specs.Sheet.{refusalOf}
 use Rattle.printout.specs.Printout.{printed, printout}
-use Rattle.promises.specs.Refusals.{RefusalsLeave}
+use Rattle.promises.specs.Refusals.{NotOfForm, RefusalsLeave}
 
 open-refused : (piece : List ℕ) → (answerNumber (openCall piece .answer) ≡ 0 → ⊥) → openCall piece .ledger ≡ emptyLedger
 unfolding openCall
@@ -60,23 +63,38 @@ reckon-refused s plan buffer = go (dossierCall s plan .answer) (dossierCall s pl
     go Answer.Accepted l h = close-refused l buffer h
     go (Answer.Refused n) l h = refl
 
--- bytes that are no plan: 12, before anything else is judged
-not-a-plan : (plan : List ℕ) → Bytes plan → ((p : Option Plan) → WellFormedPlan p plan → ⊥) → lentPlan plan ≡ refused planNotOfForm
-not-a-plan plan b f = go (lentPlan plan) refl
+-- ---- 12 just where the bytes are no plan, before anything else is judged
+not-of-form : (plan : List ℕ) → Bytes plan → NotOfForm plan → lentPlan plan ≡ refused planNotOfForm
+not-of-form plan b f = go (lentPlan plan) refl
   where
     go : (j : Judged (Option Plan)) → lentPlan plan ≡ j → j ≡ refused planNotOfForm
     go (refused n) e = ap (λ (k : ℕ). refused k) (lentPlan-refused plan n e)
     go (accepted p rest) e = let w = plan-accepted .sound plan b p rest e in absurd (f p (w .0, w .1))
 
-plan-first : (plan : List ℕ) → Bytes plan → ((p : Option Plan) → WellFormedPlan p plan → ⊥)
-    → ((l : Ledger) (piece : List ℕ) → answerNumber (yearCall l piece plan .answer) ≡ planNotOfForm) × ((s : List ℕ) (size : ℕ) → reckonNumber s plan size ≡ planNotOfForm)
-plan-first plan b f = (of-year, λ s size. number-refused s plan size _ (under-refused dossier s plan _ twelve))
+year-plan : (l : Ledger) (piece plan : List ℕ) → Bytes plan → (answerNumber (yearCall l piece plan .answer) ≡ planNotOfForm) ↔ NotOfForm plan
+unfolding yearCall
+year-plan l piece plan b = (go (under plan judge piece) refl, λ f. rw (under-refused judge piece plan planNotOfForm (not-of-form plan b f)))
   where
-    twelve : lentPlan plan ≡ refused planNotOfForm
-    twelve = not-a-plan plan b f
+    judge : Option Plan → Reader Year
+    judge p = yearPiece (dueOf p l)
 
-    of-year : (l : Ledger) (piece : List ℕ) → answerNumber (yearCall l piece plan .answer) ≡ planNotOfForm
-    of-year l piece = unfold yearCall in rw (under-refused (λ p. yearPiece (dueOf p l)) piece plan planNotOfForm twelve)
+    go : (j : Judged Year) → under plan judge piece ≡ j → answerNumber (yearJudged l j .answer) ≡ planNotOfForm → NotOfForm plan
+    go (refused n) e z = under-none judge yearCauses tt (λ p. yearPiece-causes (dueOf p l)) plan piece (e ∙ ap (λ (k : ℕ). refused k) z)
+    go (accepted y rest) e z = let c : _≡_ {A = ℕ} 0 12 = z in absurd (omega arith)
+
+reckoning-plan : (s plan : List ℕ) (size : ℕ) → Bytes plan → (reckonNumber s plan size ≡ planNotOfForm) ↔ NotOfForm plan
+reckoning-plan s plan size b = (go (under plan dossier s) refl, λ f. number-refused s plan size _ (under-refused dossier s plan _ (not-of-form plan b f)))
+  where
+    closed : {n : ℕ} → ZeroOr closingCauses n → n ≡ planNotOfForm → ⊥
+    closed (inl e) z = let c : _≡_ {A = ℕ} 0 12 = sym e ∙ z in omega arith
+    closed (inr (inl e)) z = let c : _≡_ {A = ℕ} 10 12 = sym e ∙ z in omega arith
+    closed (inr (inr e)) z = e
+
+    go : (j : Judged Dossier) → under plan dossier s ≡ j → reckonNumber s plan size ≡ planNotOfForm → NotOfForm plan
+    go (refused n) e z =
+        let twelve = sym (number-refused s plan size n e) ∙ z in
+        under-none dossier dossierCauses tt dossier-causes plan s (e ∙ ap (λ (k : ℕ). refused k) twelve)
+    go (accepted d rest) e z = absurd (closed (close-numbers (ledgerOf d) size) (sym (number-accepted s plan size d rest e) ∙ z))
 
 -- an accepted dossier has at most 20 years
 refusal-printed : (s : List ℕ) → Bytes s → (reckonNumber s [] 1312 ≡ 0 → ⊥) → printout s ≡ refusalOf (reckonNumber s [] 1312)
@@ -100,6 +118,7 @@ refusals-leave = record {
   yearNumber = year-numbers;
   closingNumber = close-numbers;
   reckoningNumber = reckon-numbers;
-  planFirst = plan-first;
+  yearPlan = year-plan;
+  reckoningPlan = reckoning-plan;
   printing = refusal-printed;
 }

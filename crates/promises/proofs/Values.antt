@@ -3,12 +3,13 @@
 use Prim.Native.Nat.{ℕ, _+_, _*_}
 use mathlib.Core.Path.{_≡_, refl}
 use mathlib.Core.Bool.{Bool, true, false, cond}
-use mathlib.Core.List.{List, []}
+use mathlib.Core.List.{List, [], _∷_}
 use native.Mathlib.Omega.{arith}
 use lib.Dec.{ltb}
 use lib.ListN.{length}
 use borrow.Author.Tests.{ltb-false}
 use Rattle.wire.specs.Bytes.{Bytes}
+use Rattle.dossier.specs.Causes.{planNotOfForm}
 use Rattle.dossier.specs.Records.{Dossier}
 use Rattle.dossier.specs.Reader.{Judged, refused, accepted}
 use Rattle.dossier.specs.Judging.{dossier}
@@ -51,7 +52,7 @@ unfolding reckonSays reckonBuffer dossierCall
 reckoning-told s plan b bp buffer = go (under plan dossier s) refl (whole s plan b bp)
   where
     go : (j : Judged Dossier) → under plan dossier s ≡ j → HandedBack (dossierJudged j .ledger) → StepTold (dossierJudged j) buffer
-    go (refused n) e h = refused-told _ n buffer (λ z. omega (arith, positive dossierCauses tt n (dossier-under-causes plan s n e)))
+    go (refused n) e h = refused-told _ n buffer (λ z. omega (arith, positive (planNotOfForm ∷ dossierCauses) tt n (dossier-under-causes plan s n e)))
     go (accepted d rest) e h = close-told h buffer
 
 pub values-told : ValuesTold

@@ -39,7 +39,7 @@ afterCalls (c ∷ calls) l = afterCalls calls (afterCall c l)
 unfoldable pub ledgerAfter : (opening : List ℕ) → List Call → Ledger
 ledgerAfter opening calls = afterCalls calls (openCall opening .ledger)
 
--- what a year call is lent are bytes, twice
+-- the piece and the plan of a year call are bytes
 abbrev pub LentBytes : List Call → Type 0
 LentBytes [] = Unit {0}
 LentBytes (giving piece plan ∷ calls) = (Bytes piece × Bytes plan) × LentBytes calls

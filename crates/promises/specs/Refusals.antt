@@ -4,7 +4,8 @@
 use Prim.Native.Nat.{ℕ}
 use mathlib.Core.Path.{_≡_}
 use mathlib.Core.Option.{Option}
-use mathlib.Core.List.{List, []}
+use mathlib.Core.Logic.{_↔_}
+use mathlib.Core.List.{List, [], _∷_}
 use lib.ListN.{length}
 use Rattle.dossier.specs.Causes.{planNotOfForm, causes, openingCauses, yearCauses, closingCauses, ZeroOr}
 use Rattle.dossier.specs.Plan.{Plan}
@@ -16,8 +17,12 @@ use Rattle.reckoner.specs.Calls.{answerNumber, openCall, yearCall, closeCall, c
 use Rattle.sheet.specs.Sheet.{refusalOf}
 use Rattle.printout.specs.Printout.{printout}
 
--- of any bytes, any plan, any ledger and any buffer; 12 is "judged before dossier or piece" (#103), whatever they and the ledger are; `yearsheet` lends
--- no plan and a buffer for 20 years, 1,312 bytes, and prints of refused bytes the number alone
+-- #103, "12 for a plan not of this form": neither a plan's bytes nor none
+abbrev pub NotOfForm : List ℕ → Type 0
+NotOfForm plan = (p : Option Plan) → WellFormedPlan p plan → ⊥
+
+-- of any bytes, any plan, any ledger and any buffer; 12 by the plan alone, "judged before dossier or piece" (#103), whatever these, the ledger and the
+-- buffer are; `yearsheet` lends no plan and a buffer for 20 years, 1,312 bytes, and prints of refused bytes the number alone
 pub record RefusalsLeave : Type 0 where
   pub opening : (piece : List ℕ) → (answerNumber (openCall piece .answer) ≡ 0 → ⊥) → openCall piece .ledger ≡ emptyLedger
   pub year : (l : Ledger) (piece plan : List ℕ) → (answerNumber (yearCall l piece plan .answer) ≡ 0 → ⊥) → yearCall l piece plan .ledger ≡ l
@@ -25,9 +30,9 @@ pub record RefusalsLeave : Type 0 where
   pub closing : (l : Ledger) (size : ℕ) → closeCall l size .ledger ≡ l
   pub reckoning : (s plan buffer : List ℕ) → (reckonNumber s plan (length buffer) ≡ 0 → ⊥) → reckonBuffer s plan buffer ≡ buffer
   pub openingNumber : (piece : List ℕ) → ZeroOr openingCauses (answerNumber (openCall piece .answer))
-  pub yearNumber : (l : Ledger) (piece plan : List ℕ) → ZeroOr yearCauses (answerNumber (yearCall l piece plan .answer))
+  pub yearNumber : (l : Ledger) (piece plan : List ℕ) → ZeroOr (planNotOfForm ∷ yearCauses) (answerNumber (yearCall l piece plan .answer))
   pub closingNumber : (l : Ledger) (size : ℕ) → ZeroOr closingCauses (closeSays l size .number)
   pub reckoningNumber : (s plan : List ℕ) (size : ℕ) → ZeroOr causes (reckonNumber s plan size)
-  pub planFirst : (plan : List ℕ) → Bytes plan → ((p : Option Plan) → WellFormedPlan p plan → ⊥)
-      → ((l : Ledger) (piece : List ℕ) → answerNumber (yearCall l piece plan .answer) ≡ planNotOfForm) × ((s : List ℕ) (size : ℕ) → reckonNumber s plan size ≡ planNotOfForm)
+  pub yearPlan : (l : Ledger) (piece plan : List ℕ) → Bytes plan → (answerNumber (yearCall l piece plan .answer) ≡ planNotOfForm) ↔ NotOfForm plan
+  pub reckoningPlan : (s plan : List ℕ) (size : ℕ) → Bytes plan → (reckonNumber s plan size ≡ planNotOfForm) ↔ NotOfForm plan
   pub printing : (s : List ℕ) → Bytes s → (reckonNumber s [] 1312 ≡ 0 → ⊥) → printout s ≡ refusalOf (reckonNumber s [] 1312)

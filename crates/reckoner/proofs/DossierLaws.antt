@@ -86,7 +86,8 @@ yearsJudged l (accepted ys rest) = record { ledger = givenYears ys l; answer = A
 unfoldable pub yearsCall : Option Plan → Ledger → List ℕ → Step
 yearsCall plan l s = yearsJudged l (years (l .state .left) (dueOf plan l) [] s)
 
-module _ (plan : Option Plan) (terms : Terms) (state : State) (l : Ledger) (el : l ≡ newLedger terms state) (s u : List ℕ) (r : Reckoned) (says : reckonedSays s r ≡ giveYears plan (state .left) l u) where
+module _ (plan : Option Plan) (terms : Terms) (state : State) (l : Ledger) (el : l ≡ newLedger terms state) (s u : List ℕ) (r : Reckoned)
+    (says : reckonedSays s r ≡ giveYears plan (state .left) l u) where
   all-left : reckonedSays s r ≡ giveYears plan (l .state .left) l u
   unfolding newLedger
   all-left = let z : state .left ≡ l .state .left = rw el in says ∙ ap (λ (k : ℕ). giveYears plan k l u) z

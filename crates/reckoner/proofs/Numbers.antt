@@ -15,7 +15,7 @@ use Rattle.figures.specs.Reckoning.{afterFigures, afterYear}
 use Rattle.dossier.specs.Plan.{Plan}
 use Rattle.dossier.specs.Records.{stateOf, Dossier, DossierInRange, dossierBytes, Opening, WellFormedPlan}
 use Rattle.dossier.specs.Claims.{numberOf}
-use Rattle.dossier.specs.Causes.{bufferTooShort, causes, openingCauses, yearCauses, closingCauses, _∈_, ZeroOr}
+use Rattle.dossier.specs.Causes.{bufferTooShort, planNotOfForm, causes, openingCauses, yearCauses, closingCauses, _∈_, ZeroOr}
 use Rattle.dossier.specs.Reader.{Judged, refused, accepted}
 use Rattle.dossier.specs.Judging.{dossier, openingPiece, yearPiece}
 use Rattle.dossier.specs.JudgingPlan.{lentPlan, under}
@@ -57,7 +57,7 @@ unfolding reckonSays dossierCall
 number-refused s planned size n e = rw (reckonNumber, e)
 
 module _ (s planned : List ℕ) (size : ℕ) (d : Dossier) (rest : List ℕ) (e : under planned dossier s ≡ accepted d rest) where
-  number-accepted : reckonNumber s planned size ≡ closeSays (ledgerOf d) size .number
+  pub number-accepted : reckonNumber s planned size ≡ closeSays (ledgerOf d) size .number
   unfolding reckonSays dossierCall
   number-accepted = rw (reckonNumber, e)
 
@@ -83,9 +83,9 @@ number-zero s planned b bp size = (there, back (under planned dossier s) refl)
     there (p, w, (d, h, es, enough)) = number-enough s planned size d [] (judged-as p w d h es) (omega (arith, given-all p d h, enough))
 
     back : (j : Judged Dossier) → under planned dossier s ≡ j → reckonNumber s planned size ≡ 0 → Reckoned s planned size
-    back (refused n) e z = let c = positive dossierCauses tt n (dossier-under-causes planned s n e) in let y = number-refused s planned size n e in absurd (omega arith)
+    back (refused n) e z = let c = positive (planNotOfForm ∷ dossierCauses) tt n (dossier-under-causes planned s n e) in let y = number-refused s planned size n e in absurd (omega arith)
     back (accepted d t) e z =
-        let (p, w, (f, h, es)) = under-zero dossier-accepted dossierCauses tt dossier-under-causes s planned b bp .1 (ap numberOf e) in
+        let (p, w, (f, h, es)) = under-zero dossier-accepted (planNotOfForm ∷ dossierCauses) tt dossier-under-causes s planned b bp .1 (ap numberOf e) in
         let enough = close-zero (ledgerOf f) size .0 (sym (number-accepted s planned size f [] (judged-as p w f h es)) ∙ z) in
         (p, w, (f, h, es, omega (arith, given-all p f h, enough)))
 
@@ -98,11 +98,11 @@ open-numbers piece = go (openingPiece piece) refl
     go (refused n) e = inr (openingPiece-causes piece n e)
     go (accepted o rest) e = inl refl
 
-pub year-numbers : (l : Ledger) (piece plan : List ℕ) → ZeroOr yearCauses (answerNumber (yearCall l piece plan .answer))
+pub year-numbers : (l : Ledger) (piece plan : List ℕ) → ZeroOr (planNotOfForm ∷ yearCauses) (answerNumber (yearCall l piece plan .answer))
 unfolding yearCall
 year-numbers l piece plan = go (under plan (λ p. yearPiece (dueOf p l)) piece) refl
   where
-    go : (j : Judged Year) → under plan (λ p. yearPiece (dueOf p l)) piece ≡ j → ZeroOr yearCauses (answerNumber (yearJudged l j .answer))
+    go : (j : Judged Year) → under plan (λ p. yearPiece (dueOf p l)) piece ≡ j → ZeroOr (planNotOfForm ∷ yearCauses) (answerNumber (yearJudged l j .answer))
     go (refused n) e = inr (yearPiece-under-causes (λ p. dueOf p l) plan piece n e)
     go (accepted y rest) e = inl refl
 

@@ -94,16 +94,14 @@ fn give_years<'a>(
     count: u64,
     plan: &'a [u8],
     places: &[usize; 20],
-    planned: usize,
+    entries: usize,
 ) -> Reckoned
     requires { ⌜ (from ≤ length (now s)) × HandedBack ledger ⌝ }
-    requires { ⌜ PlanSaid (lentPlan (now plan)) (now plan) (now places) (PlanRead planned) ⌝ }
+    requires { ⌜ PlanSaid (lentPlan (now plan)) (now plan) (now places) (PlanRead entries) ⌝ }
     ensures { λ r. ⌜ reckonedSays (now (s .entry)) r ≡ giveYears (lentAs (now (plan .entry))) count ledger (drop from (now (s .entry))) ⌝ }
     ensures { λ r. ⌜ stepInside (now (s .entry)) (r .answer) ⌝ }
 {
     let terms = ledger.terms;
-    let start = terms.start;
-    let belt = terms.beltstart;
     let mut factors = [0u64; 144];
     let mut counted = [0u64; 144];
     figures::fill_factors(&mut factors, &mut counted, &terms.stocks, terms.option);
@@ -111,15 +109,15 @@ fn give_years<'a>(
     let mut k: u64 = 0;
     while k < count {
         let state = ledger.state;
-        let found = plans::find(plan, places, planned, state.year);
+        let found = plans::find(plan, places, entries, state.year);
         let stepped = reckoning::step(
             s,
             at,
             plan,
             found,
             state,
-            start,
-            belt,
+            terms.start,
+            terms.beltstart,
             &terms.matrix,
             &factors,
             &counted,
@@ -127,12 +125,7 @@ fn give_years<'a>(
         let answer = stepped.answer;
         let advanced = stepped.advanced;
         match answer {
-            StepAnswer::Refused(n) => {
-                return Reckoned {
-                    ledger,
-                    answer: StepAnswer::Refused(n),
-                };
-            }
+            StepAnswer::Refused(n) => return Reckoned { ledger, answer },
             StepAnswer::Next(next) => {
                 let y = ledger.given as usize;
                 let figures = advanced.figures;
@@ -145,15 +138,13 @@ fn give_years<'a>(
         }
         k += 1;
     }
-    Reckoned {
-        ledger,
-        answer: StepAnswer::Next(at),
-    }
+    let answer = StepAnswer::Next(at);
+    Reckoned { ledger, answer }
 }
 
 // A dossier's ledger, under a plan of so many years at these places: opened, given all its years, and EN after them; an empty one where that is refused.
-fn give_dossier<'a>(dossier: &'a [u8], plan: &'a [u8], places: &[usize; 20], planned: usize) -> Step
-    requires { ⌜ PlanSaid (lentPlan (now plan)) (now plan) (now places) (PlanRead planned) ⌝ }
+fn give_dossier<'a>(dossier: &'a [u8], plan: &'a [u8], places: &[usize; 20], entries: usize) -> Step
+    requires { ⌜ PlanSaid (lentPlan (now plan)) (now plan) (now places) (PlanRead entries) ⌝ }
     ensures { λ r. ⌜ r ≡ dossierCall (now (dossier .entry)) (now (plan .entry)) ⌝ }
 {
     let opened = opening::read_opening(dossier);
@@ -164,7 +155,7 @@ fn give_dossier<'a>(dossier: &'a [u8], plan: &'a [u8], places: &[usize; 20], pla
         OpeningAnswer::Refused(n) => refused_opening(n),
         OpeningAnswer::Read(next) => {
             let ledger = new_ledger(terms, state);
-            let reckoned = give_years(dossier, next, ledger, state.left, plan, places, planned);
+            let reckoned = give_years(dossier, next, ledger, state.left, plan, places, entries);
             let answer = reckoned.answer;
             let ledger = reckoned.ledger;
             match answer {
@@ -190,13 +181,13 @@ fn give_piece<'a>(
     piece: &'a [u8],
     plan: &'a [u8],
     places: &[usize; 20],
-    planned: usize,
+    entries: usize,
 ) -> Step
     requires { ⌜ HandedBack ledger ⌝ }
-    requires { ⌜ PlanSaid (lentPlan (now plan)) (now plan) (now places) (PlanRead planned) ⌝ }
+    requires { ⌜ PlanSaid (lentPlan (now plan)) (now plan) (now places) (PlanRead entries) ⌝ }
     ensures { λ r. ⌜ r ≡ yearCall ledger (now (piece .entry)) (now (plan .entry)) ⌝ }
 {
-    let reckoned = give_years(piece, 0, ledger, 1, plan, places, planned);
+    let reckoned = give_years(piece, 0, ledger, 1, plan, places, entries);
     let answer = reckoned.answer;
     let given = reckoned.ledger;
     match answer {
@@ -251,7 +242,7 @@ impl Ledger {
                 ledger: self,
                 answer: Answer::Refused(n),
             },
-            PlanAnswer::Read(planned) => give_piece(self, piece, plan, &places, planned),
+            PlanAnswer::Read(entries) => give_piece(self, piece, plan, &places, entries),
         }
     }
 
@@ -299,7 +290,7 @@ impl Ledger {
         let mut places = [0usize; 20];
         match plans::read_plan(plan, &mut places) {
             PlanAnswer::Refused(n) => refused_opening(n),
-            PlanAnswer::Read(planned) => give_dossier(dossier, plan, &places, planned),
+            PlanAnswer::Read(entries) => give_dossier(dossier, plan, &places, entries),
         }
     }
 }

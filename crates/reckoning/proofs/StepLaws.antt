@@ -21,13 +21,13 @@ use Rattle.figures.specs.Reckoning.{regionReference, tableEmissions, yearFigure
 use Rattle.dossier.specs.Reader.{Judged, refused, accepted, after, _>>=_, _>>_, give, holds}
 use Rattle.dossier.specs.Causes.{plannedYearWrong}
 use Rattle.dossier.specs.Plan.{Plan, recordsFor}
-use Rattle.dossier.specs.Records.{Due}
+use Rattle.dossier.specs.Records.{Due, figuresFor}
 use Rattle.dossier.specs.Judging.{yearLeft, allowed, year}
 use Rattle.dossier.proofs.ReaderLaws.{bind-yes}
 use Rattle.years.specs.Answers.{Summary, summary, summarizedYear}
 use Rattle.reckoning.specs.declared.Advanced.{Advanced}
 use Rattle.reckoning.specs.declared.StepAnswer.{StepAnswer}
-use Rattle.reckoning.specs.Step.{advancedFigures, carbonAdvanced, summaryAdvanced, smallIfPlanned, steppedYear, stepJudged, stepInside}
+use Rattle.reckoning.specs.Step.{advancedFigures, carbonAdvanced, summaryAdvanced, steppedYear, stepJudged, stepInside}
 
 -- ---- a year that was read and reckoned: its answer, and where what follows begins
 answered : (s : List ℕ) (b : Bool) (a : Advanced) (next : ℕ) (answer : StepAnswer) → answer ≡ cond b (StepAnswer.Next next) (StepAnswer.Refused 13) → next ≤ length s
@@ -38,12 +38,12 @@ answered s false a next answer e inside = rw e (refl, tt)
 
 pub step-made : (factor counted : ℕ → ℕ → ℕ) (matrix : List ℕ) (fromPlan : Option (List Activity)) (start beltstart : ℕ) (state : State) (u s : List ℕ) (m : Summary) (next : ℕ)
     (a : Advanced) (answer : StepAnswer) → accepted m (drop next s) ≡ summarizedYear counted fromPlan (state .year) (state .left) start beltstart u
-    → a ≡ summaryAdvanced factor matrix m state → answer ≡ cond (smallIfPlanned (m .planned) (a .figures)) (StepAnswer.Next next) (StepAnswer.Refused 13) → next ≤ length s
+    → a ≡ summaryAdvanced factor matrix m state → answer ≡ cond (allowed (m .planned) (a .figures)) (StepAnswer.Next next) (StepAnswer.Refused 13) → next ≤ length s
     → (stepJudged s (record { answer = answer; advanced = a }) answer ≡ steppedYear factor counted matrix fromPlan start beltstart state u) × stepInside s answer
 unfolding steppedYear
 step-made factor counted matrix fromPlan start beltstart state u s m next a answer says made judged inside =
-    let (says-answer, answer-inside) = answered s (smallIfPlanned (m .planned) (a .figures)) a next answer judged inside in
-    let same = ap (λ (x : Advanced). (holds plannedYearWrong (smallIfPlanned (m .planned) (x .figures)) >> give x) (drop next s)) made in
+    let (says-answer, answer-inside) = answered s (allowed (m .planned) (a .figures)) a next answer judged inside in
+    let same = ap (λ (x : Advanced). (holds plannedYearWrong (allowed (m .planned) (x .figures)) >> give x) (drop next s)) made in
     (says-answer ∙ same ∙ bind-yes (summarizedYear counted fromPlan (state .year) (state .left) start beltstart) _ u m (drop next s) says, answer-inside)
 
 -- ---- by the tables of the terms, a step is the year's own reckoning
@@ -100,16 +100,16 @@ module _ (t : Terms) (factors counted : List ℕ) (ef : factors ≡ tableOf (emi
       made false y v = unfold holds give in refl
 
       same : (y : Year) (v : List ℕ)
-          → after (holds plannedYearWrong (smallIfPlanned (y .planned) (summaryAdvanced (entry factors) (t .matrix) (summary (entry counted) y) state .figures)) v)
+          → after (holds plannedYearWrong (allowed (y .planned) (summaryAdvanced (entry factors) (t .matrix) (summary (entry counted) y) state .figures)) v)
           (λ _. give (summaryAdvanced (entry factors) (t .matrix) (summary (entry counted) y) state))
-          ≡ after (holds plannedYearWrong (allowed due y) v) (λ _. give (yearAdvanced t y state))
+          ≡ after (holds plannedYearWrong (allowed (y .planned) (figuresFor due y)) v) (λ _. give (yearAdvanced t y state))
       same y v =
           unfold yearAdvanced in
-          ap (λ (a : Advanced). after (holds plannedYearWrong (smallIfPlanned (y .planned) (a .figures)) v) (λ _. give a)) (advanced-same y state)
+          ap (λ (a : Advanced). after (holds plannedYearWrong (allowed (y .planned) (a .figures)) v) (λ _. give a)) (advanced-same y state)
 
       go : (j : Judged Year)
           → after (after j (λ y. give (summary (entry counted) y)))
-          (λ m. holds plannedYearWrong (smallIfPlanned (m .planned) (summaryAdvanced (entry factors) (t .matrix) m state .figures)) >> give (summaryAdvanced (entry factors) (t .matrix) m state))
-          ≡ after (after j (λ y. holds plannedYearWrong (allowed due y) >> give y)) (λ y. give (yearAdvanced t y state))
+          (λ m. holds plannedYearWrong (allowed (m .planned) (summaryAdvanced (entry factors) (t .matrix) m state .figures)) >> give (summaryAdvanced (entry factors) (t .matrix) m state))
+          ≡ after (after j (λ y. holds plannedYearWrong (allowed (y .planned) (figuresFor due y)) >> give y)) (λ y. give (yearAdvanced t y state))
       go (refused n) = refl
-      go (accepted y v) = unfold give _>>_ in same y v ∙ made (allowed due y) y v
+      go (accepted y v) = unfold give _>>_ in same y v ∙ made (allowed (y .planned) (figuresFor due y)) y v

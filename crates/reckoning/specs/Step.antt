@@ -1,7 +1,6 @@
 -- One year's reckoning over the bytes, from a year's summary and by tables of factors.
 -- Serves contracts of inner functions and proofs; nothing here has to be believed. Assumes nothing.
 use Prim.Native.Nat.{ℕ, _≤_, _<_}
-use mathlib.Core.Bool.{Bool, true, cond}
 use mathlib.Core.Option.{Option}
 use mathlib.Core.List.{List}
 use lib.Signed.{mag}
@@ -15,11 +14,11 @@ use Rattle.activity.specs.declared.Activity.{Activity}
 use Rattle.figures.specs.declared.Figures.{Figures}
 use Rattle.figures.specs.declared.State.{State}
 use Rattle.figures.specs.declared.YearDays.{YearDays}
-use Rattle.figures.specs.Figures.{smallActivity}
 use Rattle.figures.specs.Carbon.{carbonFigures}
 use Rattle.figures.specs.Reckoning.{afterFigures}
 use Rattle.dossier.specs.Reader.{Judged, refused, accepted, Reader, _>>=_, _>>_, give, holds}
 use Rattle.dossier.specs.Causes.{plannedYearWrong}
+use Rattle.dossier.specs.Judging.{allowed}
 use Rattle.years.specs.Answers.{Summary, summarizedYear}
 use Rattle.reckoning.specs.declared.Advanced.{Advanced}
 use Rattle.reckoning.specs.declared.StepAnswer.{StepAnswer}
@@ -41,15 +40,11 @@ carbonAdvanced factor matrix days project belt activity state = record {
 abbrev pub summaryAdvanced : (ℕ → ℕ → ℕ) → List ℕ → Summary → State → Advanced
 summaryAdvanced factor matrix m state = carbonAdvanced factor matrix (m .days) (m .project) (m .belt) (m .activity) state
 
--- a year with planned quantities has small activity emissions
-abbrev pub smallIfPlanned : Bool → Figures → Bool
-smallIfPlanned planned figures = cond planned (smallActivity figures) true
-
 -- the year that is due at the bytes' start, reckoned
 unfoldable pub steppedYear : (factor counted : ℕ → ℕ → ℕ) → List ℕ → (fromPlan : Option (List Activity)) (start beltstart : ℕ) → State → Reader Advanced
 steppedYear factor counted matrix fromPlan start beltstart state = do
   m ← summarizedYear counted fromPlan (state .year) (state .left) start beltstart
-  holds plannedYearWrong (smallIfPlanned (m .planned) (summaryAdvanced factor matrix m state .figures))
+  holds plannedYearWrong (allowed (m .planned) (summaryAdvanced factor matrix m state .figures))
   give (summaryAdvanced factor matrix m state)
 
 -- ---- what a step answers

@@ -17,8 +17,9 @@ ghost use Rattle.classes.specs.Matrix.{entry};
 ghost use Rattle.classes.specs.Ranges.{greatestActivity};
 ghost use Rattle.projection.specs.Ranges.{SmallArea, RowsWithin, FactorsFit};
 ghost use Rattle.figures.specs.Ranges.{SmallCarbon, DaysOf, SmallNet};
+ghost use Rattle.dossier.specs.Judging.{allowed};
 ghost use Rattle.plans.specs.Answers.{takenAt, FoundInside};
-ghost use Rattle.reckoning.specs.Step.{carbonAdvanced, smallIfPlanned, steppedYear, stepSays, stepInside, SmallState};
+ghost use Rattle.reckoning.specs.Step.{carbonAdvanced, steppedYear, stepSays, stepInside, SmallState};
 
 // The state after a year, and the year's figures.
 pub struct Advanced {
@@ -89,7 +90,7 @@ fn advance(
 // What a year with these figures answers: 13 where its quantities are planned and its activity emissions are not small.
 fn judged(planned: bool, figures: Figures, next: usize) -> StepAnswer
     requires { ⌜ SmallNet figures ⌝ }
-    ensures { λ r. ⌜ r ≡ cond (smallIfPlanned planned figures) (StepAnswer.Next next) (StepAnswer.Refused 13) ⌝ }
+    ensures { λ r. ⌜ r ≡ cond (allowed planned figures) (StepAnswer.Next next) (StepAnswer.Refused 13) ⌝ }
 {
     if planned {
         if !figures::small_activity(figures) {

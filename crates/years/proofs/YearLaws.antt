@@ -29,7 +29,8 @@ use Rattle.years.specs.declared.YearAnswer.{YearAnswer}
 use Rattle.years.specs.Answers.{monitoredTable, Summary, summary, summarizedYear, summarizedRecords, summarizedTables, yearSays, recordsInside, tablesInside, yearFits}
 
 -- ---- from CP on
-module _ (factor : ℕ → ℕ → ℕ) (fromPlan : Option (List Activity)) (days : YearDays) (start beltstart : ℕ) (u : List ℕ) (p : CarbonUnits) (v : List ℕ) (e : accepted p v ≡ monitoredTable factor CP start u) where
+module _ (factor : ℕ → ℕ → ℕ) (fromPlan : Option (List Activity)) (days : YearDays) (start beltstart : ℕ) (u : List ℕ)
+    (p : CarbonUnits) (v : List ℕ) (e : accepted p v ≡ monitoredTable factor CP start u) where
   pub belt-no : (n : ℕ) → refused n ≡ monitoredTable factor CD beltstart v → refused n ≡ summarizedTables factor fromPlan days start beltstart u
   unfolding summarizedTables
   belt-no n f = bind-no (monitoredTable factor CD beltstart) _ v n f ∙ bind-yes (monitoredTable factor CP start) _ u p v e
@@ -70,7 +71,8 @@ module _ (factor : ℕ → ℕ → ℕ) (fromPlan : Option (List Activity)) (due
 
   module _ (z : r ≡ 0) where
     module _ (some : left ≡ 0 → ⊥) (y d : ℕ) (ey : y ≡ fieldAt 2 s (at + 2)) (ed : d ≡ fieldAt 2 s (at + 4)) where
-      year-at : yearLeft fromPlan due left start beltstart (drop at s) ≡ cond (eqb y due) (cond (outside 1 d (daysInYear y)) (refused 6) (tables fromPlan y d start beltstart (drop (at + 6) s))) (refused 6)
+      year-at : yearLeft fromPlan due left start beltstart (drop at s)
+          ≡ cond (eqb y due) (cond (outside 1 d (daysInYear y)) (refused 6) (tables fromPlan y d start beltstart (drop (at + 6) s))) (refused 6)
       unfolding yearLeft yearRecords tables
       year-at = rw (ne-eqb left 0 some) (rw (← begun-yes s at YR 4 r h _ z) (simp (reading, ← ey, ← ed)))
 
@@ -83,7 +85,8 @@ module _ (factor : ℕ → ℕ → ℕ) (fromPlan : Option (List Activity)) (due
         unfolding summarizedYear
         days-wrong f = bind-no (yearLeft fromPlan due left start beltstart) _ (drop at s) 6 (rw (year-at, eq-eqb y due e, ← ex, ← eo, f))
 
-        pub days-right : out ≡ false → summarizedTables factor fromPlan (record { operating = d; calendar = x }) start beltstart (drop (at + 6) s) ≡ summarizedYear factor fromPlan due left start beltstart (drop at s)
+        pub days-right : out ≡ false → summarizedTables factor fromPlan (record { operating = d; calendar = x }) start beltstart (drop (at + 6) s)
+            ≡ summarizedYear factor fromPlan due left start beltstart (drop at s)
         unfolding summarizedYear _>>=_
         days-right f = sym (rw (year-at, eq-eqb y due e, ← ex, ← eo, f) (rw ex (tables-summarized factor fromPlan y d start beltstart (drop (at + 6) s))))
 

@@ -9,7 +9,7 @@ use Rattle.ledgertrace.proofs.main.Statement.{statement}
 use Rattle.ledgertrace.proofs.main.Tie as tie
 
 abbrev Inv-loop : tie.InvT-loop
-Inv-loop plan₀ trace₀ plan trace = HandedBack (trace .ledger) × (length plan ≡ 65536) × (trace .planned ≤ 65536)
+Inv-loop plan₀ trace₀ plan trace = HandedBack (trace .ledger) × (length plan ≡ 65536) × (trace .lent ≤ 65536)
 
 abbrev μ-loop : tie.MeasureT-loop
 μ-loop plan₀ trace₀ plan trace = trace .left

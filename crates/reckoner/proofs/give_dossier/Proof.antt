@@ -27,7 +27,7 @@ bytes-lent : (c : tie.After-read-opening) → Bytes (at-start c .args .dossier .
 bytes-lent c k = c .before .before .shared-slice-known .given k .fits
 
 plan-is : (c : tie.After-read-opening) → IsPlan (at-start c .args .plan .now)
-plan-is c = let a = at-start c .args in plan-read (a .plan .now) (a .places .now) (a .planned) (at-start c .pre)
+plan-is c = let a = at-start c .args in plan-read (a .plan .now) (a .places .now) (a .entries) (at-start c .pre)
 
 -- what becomes of the years is what becomes of the dossier
 as-dossier : (c : tie.After-new-ledger) (r : Step)

@@ -12,7 +12,7 @@ abbrev at-start : tie.After-give-years → tie.Start
 at-start c = c .before .before .before
 
 plan-is : (c : tie.After-give-years) → IsPlan (at-start c .args .plan .now)
-plan-is c = let a = at-start c .args in plan-read (a .plan .now) (a .places .now) (a .planned) (at-start c .pre .1)
+plan-is c = let a = at-start c .args in plan-read (a .plan .now) (a .places .now) (a .entries) (at-start c .pre .1)
 
 give-years-requires : tie.Need-give-years-requires
 give-years-requires c κs = let (used, said) = c .before .before .pre in ((omega arith, used), said)

@@ -14,14 +14,14 @@ use Rattle.reckoner.proofs.give_years.Statement.{statement}
 use Rattle.reckoner.proofs.give_years.Tie as tie
 
 abbrev Inv-loop : tie.InvT-loop
-Inv-loop s from count plan places planned ledger₀ terms start belt factors counted at₀ k₀ ledger at k = SoFar (lentAs plan) s from ledger₀ count at ledger k
+Inv-loop s from count plan places entries ledger₀ terms factors counted at₀ k₀ ledger at k = SoFar (lentAs plan) s from ledger₀ count at ledger k
 
 abbrev μ-loop : tie.MeasureT-loop
-μ-loop s from count plan places planned ledger₀ terms start belt factors counted at₀ k₀ ledger at k = count - k
+μ-loop s from count plan places entries ledger₀ terms factors counted at₀ k₀ ledger at k = count - k
 
 -- the places: the plan's records found, a turn of the loop, the tables of factors before it, the lent bytes and the start
 abbrev at-find : tie.After-step Inv-loop μ-loop → tie.After-find Inv-loop μ-loop
-at-find c = c .before .before .before .before .before
+at-find c = c .before .before .before .before .before .before .before
 
 abbrev in-loop : tie.After-step Inv-loop μ-loop → tie.In-loop Inv-loop μ-loop
 in-loop c = at-find c .before .before
@@ -29,11 +29,8 @@ in-loop c = at-find c .before .before
 abbrev at-tables : tie.At-loop Inv-loop μ-loop → tie.After-fill-factors Inv-loop μ-loop
 at-tables c = c .before
 
-abbrev at-belt : tie.After-fill-factors Inv-loop μ-loop → tie.After-belt Inv-loop μ-loop
-at-belt c = c .before .before .before .before .before
-
 abbrev at-slices : tie.After-fill-factors Inv-loop μ-loop → tie.After-shared-slice-known2 Inv-loop μ-loop
-at-slices c = at-belt c .before .before .before
+at-slices c = c .before .before .before .before .before .before
 
 abbrev at-start : tie.After-fill-factors Inv-loop μ-loop → tie.Start Inv-loop μ-loop
 at-start c = at-slices c .before .before
@@ -43,7 +40,7 @@ bytes-lent c k = at-slices c .before .shared-slice-known .given k .fits
 
 -- the plan that is lent, and what was found in it for the year that is due
 plan-is : (c : tie.After-fill-factors Inv-loop μ-loop) → IsPlan (at-start c .args .plan .now)
-plan-is c = let a = at-start c .args in plan-read (a .plan .now) (a .places .now) (a .planned) (at-start c .pre .1)
+plan-is c = let a = at-start c .args in plan-read (a .plan .now) (a .places .now) (a .entries) (at-start c .pre .1)
 
 plan-lent : (c : tie.After-fill-factors Inv-loop μ-loop) → PlanLent (lentAs (at-start c .args .plan .now))
 plan-lent c = lent-as (at-start c .args .plan .now) (λ k. at-slices c .shared-slice-known2 .given k .fits) (plan-is c)
@@ -65,7 +62,7 @@ find-requires c κs = at-start (at-tables (c .before .before)) .pre .1
 
 step-requires : tie.Need-step-requires Inv-loop μ-loop
 step-requires c κs =
-    let at-found = c .before .before .before .before in
+    let at-found = c .before .before .before .before .before .before in
     let at-loop = at-found .before .before .before in
     let t = at-tables at-loop in
     let f = at-loop .loop .inv in

@@ -27,13 +27,13 @@ enum-known-n c = search needs
 refused-opening-requires : tie.Need-refused-opening-requires
 refused-opening-requires c κs = search needs
 
-enum-known-planned : tie.Need-enum-known-planned
-enum-known-planned c = search needs
+enum-known-entries : tie.Need-enum-known-entries
+enum-known-entries c = search needs
 
 give-dossier-requires : tie.Need-give-dossier-requires
 give-dossier-requires c κs =
     let at-answer = c .before .before in
-    rw (at-answer .planned .given .1) at (at-answer .before .before .read-plan .ensures)
+    rw (at-answer .entries .given .1) at (at-answer .before .before .read-plan .ensures)
 
 returns : tie.Need-returns
 returns c =
@@ -50,4 +50,4 @@ returns-2 c =
 
 pub of-dossier-spec : {M : Type 1} → statement M
 of-dossier-spec =
-    tie.close (tie.spec read-plan-requires enum-known-n refused-opening-requires enum-known-planned give-dossier-requires returns returns-2)
+    tie.close (tie.spec read-plan-requires enum-known-n refused-opening-requires enum-known-entries give-dossier-requires returns returns-2)

@@ -23,14 +23,14 @@ read-plan-requires c κs = search needs
 enum-known-n : tie.Need-enum-known-n
 enum-known-n c = search needs
 
-enum-known-planned : tie.Need-enum-known-planned
-enum-known-planned c = search needs
+enum-known-entries : tie.Need-enum-known-entries
+enum-known-entries c = search needs
 
 give-piece-requires : tie.Need-give-piece-requires
 give-piece-requires c κs =
     let at-answer = c .before .before in
     let at-read = at-answer .before .before in
-    (at-start at-read .pre, rw (at-answer .planned .given .1) at (at-read .read-plan .ensures))
+    (at-start at-read .pre, rw (at-answer .entries .given .1) at (at-read .read-plan .ensures))
 
 returns : tie.Need-returns
 returns c =
@@ -47,4 +47,4 @@ returns-2 c =
     year-handed _ _ _ _ (at-start at-read .pre) piece plan (c .give-piece .ensures)
 
 pub year-spec : {M : Type 1} → statement M
-year-spec = tie.close (tie.spec read-plan-requires enum-known-n enum-known-planned give-piece-requires returns returns-2)
+year-spec = tie.close (tie.spec read-plan-requires enum-known-n enum-known-entries give-piece-requires returns returns-2)
