@@ -1,14 +1,17 @@
 -- Laws of sums over the numbers below n, and of lists by their entries.
 -- Assumes nothing.
 use mathlib.Core.Path.{_≡_, refl, _∙_}
+use mathlib.Core.Bool.{Bool, true, false}
 use mathlib.Core.Logic.{_⊎_, inl, inr}
 use mathlib.Core.List.{[], _∷_, _++_}
 use Prim.Native.Nat.{ℕ, zero, suc, _+_, _*_, _≤_, _<_}
 use native.Mathlib.Nat.{le-refl, le-step, eq-or-lt-of-le, le-of-suc-le-suc}
 use native.Mathlib.Numerals.{add-one}
 use native.Mathlib.Omega.{arith}
-use lib.ListN.{length, getD, length-append, List·getD-append}
+use lib.Dec.{ltb}
+use lib.ListN.{length, getD, length-append, List·getD-append, List·getD-eq-default}
 use lib.Seq.{getD-at}
+use borrow.Author.Tests.{ltb-true, ltb-false}
 use Rattle.arithmetic.specs.Sum.{sum, listed}
 
 -- for a loop that adds one term a turn
@@ -111,3 +114,11 @@ pub listed-cong : {A : Type 0} (n : ℕ) (f g : ℕ → A) → ((i : ℕ) → i 
 unfolding listed
 listed-cong zero f g e = refl
 listed-cong (suc n) f g e = rw (listed-cong n f g (λ i h. e i (le-step h)), e n (le-refl (suc n)))
+
+-- no entry of it is above a bound of f
+pub listed-le : (n : ℕ) (f : ℕ → ℕ) (most : ℕ) → ((i : ℕ) → f i ≤ most) → (k : ℕ) → getD (listed n f) k 0 ≤ most
+listed-le n f most h k = go (ltb k n) refl
+  where
+    go : (b : Bool) → ltb k n ≡ b → getD (listed n f) k 0 ≤ most
+    go true e = rw (getD-listed n f k 0 (ltb-true k n e)) (h k)
+    go false e = rw (List·getD-eq-default (listed n f) 0 {n = k} (rw (length-listed n f) (ltb-false k n e))) (omega arith)

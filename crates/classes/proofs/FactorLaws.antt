@@ -1,14 +1,12 @@
 -- No emission factor is above a bound of its stocks, nor above the greatest of them; and no built-in stock is above the greatest that may be filed.
 -- Assumes nothing.
-use mathlib.Core.Path.{_≡_, refl}
 use mathlib.Core.Bool.{Bool, true, false, cond, _||_}
 use mathlib.Core.List.{List, [], _∷_}
 use Prim.Native.Nat.{ℕ, zero, suc, _-_, _/_, _%_, _≤_}
 use native.Mathlib.Omega.{arith}
-use lib.Dec.{eqb, ltb}
-use lib.ListN.{getD, List·getD-eq-default}
-use borrow.Author.Tests.{ltb-true, ltb-false}
-use Rattle.arithmetic.proofs.SumLaws.{length-listed, getD-listed}
+use lib.Dec.{eqb}
+use lib.ListN.{getD}
+use Rattle.arithmetic.proofs.SumLaws.{listed-le}
 use Rattle.arithmetic.proofs.TableLaws.{atMost, entry-le}
 use Rattle.classes.specs.Classes.{TP, PP, carbonStocks, emissionFactor, greatestIn, greatestStock}
 use Rattle.classes.specs.Matrix.{tableOf}
@@ -37,8 +35,4 @@ built-in-le = entry-le greatestStock carbonStocks tt
 
 -- no entry of a table of f is above a bound of f
 pub table-le : (f : ℕ → ℕ → ℕ) (g : ℕ) → ((i j : ℕ) → f i j ≤ g) → (k : ℕ) → getD (tableOf f) k 0 ≤ g
-table-le f g h k = go (ltb k 144) refl
-  where
-    go : (b : Bool) → ltb k 144 ≡ b → getD (tableOf f) k 0 ≤ g
-    go true e = rw (getD-listed 144 (λ k. f (k / 12) (k % 12)) k 0 (ltb-true k 144 e)) (h (k / 12) (k % 12))
-    go false e = rw (List·getD-eq-default (tableOf f) 0 {n = k} (rw (length-listed 144 (λ k. f (k / 12) (k % 12))) (ltb-false k 144 e))) (omega arith)
+table-le f g h = listed-le 144 (λ k. f (k / 12) (k % 12)) g (λ k. h (k / 12) (k % 12))

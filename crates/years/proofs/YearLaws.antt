@@ -26,7 +26,8 @@ use Rattle.dossier.proofs.ReaderLaws.{step, was, bind-no, bind-yes, bind-bind, 
 use Rattle.figures.specs.Ranges.{SmallCarbon, DaysOf}
 use Rattle.years.proofs.EndLaws.{none-left-is}
 use Rattle.years.specs.declared.YearAnswer.{YearAnswer}
-use Rattle.years.specs.Answers.{monitoredTable, Summary, summary, summarizedYear, summarizedRecords, summarizedTables, yearSays, recordsInside, tablesInside, yearFits}
+use Rattle.tables.specs.Answers.{monitoredTable}
+use Rattle.years.specs.Answers.{Summary, summary, summarizedYear, summarizedRecords, summarizedTables, yearSays, recordsInside, tablesInside, yearFits}
 
 -- ---- from CP on
 module _ (factor : ℕ → ℕ → ℕ) (fromPlan : Option (List Activity)) (days : YearDays) (start beltstart : ℕ) (u : List ℕ)

@@ -18,26 +18,10 @@ use Rattle.figures.specs.Year.{Year}
 use Rattle.figures.specs.Figures.{monitoredCarbon}
 use Rattle.figures.specs.Ranges.{SmallCarbon, DaysOf}
 use Rattle.dossier.specs.Reader.{Judged, refused, accepted, Reader, _>>=_, _>>_, give}
-use Rattle.dossier.specs.JudgingRecords.{conversions}
 use Rattle.dossier.specs.Marks.{CP, CD}
 use Rattle.dossier.specs.Judging.{taken, yearLeft}
-use Rattle.years.specs.declared.TableAnswer.{TableAnswer}
+use Rattle.tables.specs.Answers.{monitoredTable}
 use Rattle.years.specs.declared.YearAnswer.{YearAnswer}
-
--- ---- CP, CD: the carbon of the conversions by a table of factors
-unfoldable pub monitoredTable : (ℕ → ℕ → ℕ) → ℕ → ℕ → Reader CarbonUnits
-monitoredTable factor m settledTotal = do
-  xs ← conversions m settledTotal
-  give (record { 0 = monitoredCarbon factor xs })
-
-abbrev pub tableSays : List ℕ → TableAnswer → Judged CarbonUnits
-tableSays s (TableAnswer.Read carbon next) = accepted carbon (drop next s)
-tableSays s (TableAnswer.Refused n) = refused n
-
--- the next record begins inside, and the carbon is small
-abbrev pub tableInside : List ℕ → TableAnswer → Type 0
-tableInside s (TableAnswer.Read carbon next) = (next ≤ length s) × SmallCarbon (carbon .0)
-tableInside s (TableAnswer.Refused n) = Unit {0}
 
 -- ---- YR to the last activity record
 pub record Summary : Type 0 where

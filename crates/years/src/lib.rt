@@ -1,9 +1,10 @@
-// A year of a dossier: YR, CP, CD and its activity records or PL, each table read and weighed in one pass.
+// A year of a dossier: YR, CP, CD and its activity records or PL.
 use classes::AreaUnits;
 use classes::CarbonUnits;
 use classes::Grams;
 use figures::YearDays;
 use plans::Found;
+use tables::TableAnswer;
 ghost use mathlib.Core.Path.{_≡_};
 ghost use mathlib.Core.Bool.{cond};
 ghost use Prim.Native.Nat.{_≤_, _<_};
@@ -15,7 +16,7 @@ ghost use Rattle.dossier.specs.Claims.{numberOf};
 ghost use Rattle.dossier.specs.Judging.{noneLeft, end};
 ghost use Rattle.cursor.specs.Answers.{numberSays};
 ghost use Rattle.plans.specs.Answers.{takenAt, FoundInside};
-ghost use Rattle.years.specs.Answers.{monitoredTable, tableSays, tableInside, summarizedRecords, summarizedTables, summarizedYear, yearSays, recordsInside, tablesInside, yearFits};
+ghost use Rattle.years.specs.Answers.{summarizedRecords, summarizedTables, summarizedYear, yearSays, recordsInside, tablesInside, yearFits};
 
 const YR: u64 = 0x5952;
 
@@ -27,11 +28,6 @@ const PL: u64 = 0x504c;
 
 const EN: u64 = 0x454e;
 
-enum TableAnswer {
-    Read { carbon: CarbonUnits, next: usize },
-    Refused(u8),
-}
-
 pub enum YearAnswer {
     Read {
         days: YearDays,
@@ -42,38 +38,6 @@ pub enum YearAnswer {
         next: usize,
     },
     Refused(u8),
-}
-
-// CP or CD from at: 144 conversions whose sum is total, weighed by the factors. Each is tested against what is left of the total.
-fn read_table(s: &[u8], at: usize, m: u64, total: AreaUnits, factors: &[u64; 144]) -> TableAnswer
-    requires { ⌜ (at ≤ length (now s)) × SmallArea (total .0) ⌝ }
-    requires { ⌜ FactorsFit (now factors) ⌝ }
-    ensures { λ r. ⌜ tableSays (now (s .entry)) r ≡ monitoredTable (entry (now (factors .entry))) m (total .0) (drop at (now (s .entry))) ⌝ }
-    ensures { λ r. ⌜ tableInside (now (s .entry)) r ⌝ }
-{
-    let fault = cursor::begun(s, at, m, 1152);
-    if fault != 0 {
-        return TableAnswer::Refused(fault);
-    }
-    let mut left = total;
-    let mut carbon = CarbonUnits(0);
-    let mut k: usize = 0;
-    while k < 144 {
-        let x = AreaUnits(wire::field64(s, at + 2 + 8 * k));
-        if left.0 < x.0 {
-            return TableAnswer::Refused(7);
-        }
-        left = left.minus(x);
-        carbon = carbon.plus(projection::released(x, factors[k]));
-        k += 1;
-    }
-    if left.0 != 0 {
-        return TableAnswer::Refused(7);
-    }
-    TableAnswer::Read {
-        carbon,
-        next: at + 1154,
-    }
 }
 
 // A year from CP on, of these days: both tables, and the activity records or PL.
@@ -93,9 +57,9 @@ fn read_tables<'a>(
     ensures { λ r. ⌜ yearSays (now (s .entry)) r ≡ summarizedTables (entry (now (factors .entry))) (takenAt (now (plan .entry)) found) days (project .0) (belt .0) (drop at (now (s .entry))) ⌝ }
     ensures { λ r. ⌜ tablesInside (now (s .entry)) r ⌝ }
 {
-    match read_table(s, at, CP, project, factors) {
+    match tables::read_table(s, at, CP, project, factors) {
         TableAnswer::Refused(n) => YearAnswer::Refused(n),
-        TableAnswer::Read { carbon, next } => match read_table(s, next, CD, belt, factors) {
+        TableAnswer::Read { carbon, next } => match tables::read_table(s, next, CD, belt, factors) {
             TableAnswer::Refused(n) => YearAnswer::Refused(n),
             TableAnswer::Read {
                 carbon: belt_carbon,

@@ -7,7 +7,8 @@ use Rattle.classes.specs.Matrix.{entry}
 use Rattle.dossier.proofs.ReaderLaws.{bind-no}
 use Rattle.cursor.proofs.AtLaws.{told}
 use Rattle.plans.specs.Answers.{takenAt}
-use Rattle.years.specs.Answers.{tableSays, tableInside, summarizedTables}
+use Rattle.tables.specs.Answers.{tableSays, tableInside}
+use Rattle.years.specs.Answers.{summarizedTables}
 use Rattle.years.proofs.YearLaws.{belt-no, belt-yes, records-keep}
 use Rattle.years.proofs.read_tables.Statement.{statement}
 use Rattle.years.proofs.read_tables.Tie as tie

@@ -1,16 +1,16 @@
--- `years::read_table` meets its contract: after k turns, k conversions are subtracted from the total and weighed.
+-- `tablebench::read_by_entries` meets its contract: after k turns, k conversions are subtracted from the total and weighed.
 -- Assumes nothing.
-use mathlib.Core.Path.{_≡_, sym}
-use Prim.Native.Nat.{suc, _+_, _-_, _*_, _≤_}
-use native.Mathlib.Numerals.{add-one}
+use mathlib.Core.Path.{_≡_, refl, _∙_, ap}
+use mathlib.Core.List.{[], _∷_}
+use Prim.Native.Nat.{ℕ, _+_, _-_, _*_, _≤_}
 use native.Mathlib.Omega.{arith}
+use lib.ListN.{drop}
 use borrow.Author.Needs.{needs}
-use Rattle.classes.specs.Classes.{greatestStock}
-use Rattle.arithmetic.proofs.SumLaws.{sum-none}
-use Rattle.wire.specs.Bytes.{numbers, total}
-use Rattle.years.proofs.TableLaws.{cells, SoFar, one-more, weighed, released-le, table-no, table-wrong, table-over, table-read}
-use Rattle.years.proofs.read_table.Statement.{statement}
-use Rattle.years.proofs.read_table.Tie as tie
+use Rattle.wire.specs.Bytes.{numbers, total, fieldAt}
+use Rattle.tables.specs.Rows.{weighed}
+use Rattle.tables.proofs.TableLaws.{SoFar, light, more, over, table-no, table-wrong, table-over, table-read}
+use Rattle.tablebench.proofs.read_by_entries.Statement.{statement}
+use Rattle.tablebench.proofs.read_by_entries.Tie as tie
 
 abbrev Inv-loop : tie.InvT-loop
 Inv-loop s at m factors fault left₀ carbon₀ k₀ left carbon k = SoFar s factors at (left₀ .0) (left .0) (carbon .0) k
@@ -45,8 +45,8 @@ returns c =
     (table-no (a .s .now) (a .factors .now) (a .at) (a .m) (a .total .0) _ says (c .if1 .taken), tt)
 
 loop-holds : tie.Need-loop-holds Inv-loop μ-loop
-unfolding numbers total
-loop-holds c = record { bound = omega arith; left = omega arith; carbon = sym (sum-none _); most = omega arith }
+unfolding numbers total weighed
+loop-holds c = record { bound = omega arith; left = omega arith; carbon = refl }
 
 add-field64 : tie.Need-add-field64 Inv-loop μ-loop
 add-field64 c = search needs
@@ -60,25 +60,24 @@ add-field64-2 c = search needs
 field64-requires : tie.Need-field64-requires Inv-loop μ-loop
 field64-requires c κs = search needs
 
--- the conversion read, and what was read before it
-counted-in : (c : tie.After-field64 Inv-loop μ-loop)
+-- the conversion read, as the one number that stands there
+stands : (c : tie.After-field64 Inv-loop μ-loop)
     → let turn = at-loop c in
     let a = at-start (at-begun turn) .args in
-    total (cells (a .s .now) (a .at) (suc (turn .loop .k))) + turn .loop .left .0 ≡ a .total .0 + c .field64 .result
-counted-in c =
-    let turn = at-loop c in
-    let a = at-start (at-begun turn) .args in
-    one-more (a .s .now) (a .at) (turn .loop .k) _ (c .field64 .ensures) _ _ (turn .loop .inv .left)
+    c .field64 .result ∷ [] ≡ numbers 1 8 (drop (a .at + 2 + 8 * turn .loop .k) (a .s .now))
+unfolding numbers fieldAt
+stands c = ap (λ (x : ℕ). x ∷ []) (c .field64 .ensures)
 
 returns-2 : tie.Need-returns-2 Inv-loop μ-loop
+unfolding total
 returns-2 c =
     let field = at-field (c .before) in
     let turn = at-loop field in
     let begun = at-begun turn in
     let a = at-start begun .args in
     let (says, room) = begun .begun .ensures in
-    let over = table-over (a .s .now) (a .factors .now) (a .at) (a .m) (a .total .0) _ says (turn .before .if1 .left) in
-    (over (turn .loop .k) (omega arith) (omega (arith, counted-in field)), tt)
+    let beyond = over (a .s .now) (a .at) (turn .loop .k) 1 _ (stands field) (a .factors .now) _ _ _ (turn .loop .inv) (omega arith) in
+    (table-over (a .s .now) (a .factors .now) (a .at) (a .m) (a .total .0) _ says (turn .before .if1 .left) (turn .loop .k + 1) (omega arith) beyond, tt)
 
 minus-requires : tie.Need-minus-requires Inv-loop μ-loop
 minus-requires c κs = search needs
@@ -95,19 +94,24 @@ released-requires c κs =
     let ((inside, small), fit) = at-start (at-begun turn) .pre in
     (omega (arith, turn .loop .inv .left), fit _)
 
--- its carbon is at most the greatest factor for each of its units
-light : (c : tie.After-released Inv-loop μ-loop) → c .released .result .0 ≤ at-field (at-test (c .before .before)) .field64 .result * greatestStock
-light c =
-    let start = at-start (at-begun (at-loop (at-field (at-test (c .before .before))))) in
-    let ((inside, small), fit) = start .pre in
-    released-le (start .args .factors .now) _ _ _ fit (c .released .ensures)
+-- one conversion more
+added : (c : tie.After-released Inv-loop μ-loop)
+    → let minus = c .before .before in
+    let turn = at-loop (at-field (at-test minus)) in
+    let a = at-start (at-begun turn) .args in
+    SoFar (a .s .now) (a .factors .now) (a .at) (a .total .0) (minus .minus .result .0) (turn .loop .carbon .0 + c .released .result .0) (turn .loop .k + 1)
+unfolding total weighed
+added c =
+    let minus = c .before .before in
+    let field = at-field (at-test minus) in
+    let turn = at-loop field in
+    let a = at-start (at-begun turn) .args in
+    more (a .s .now) (a .at) (turn .loop .k) 1 _ (stands field) (a .factors .now) _ _ _ (turn .loop .inv) (omega arith) _ _ (omega (arith, minus .minus .ensures)) (omega (arith, c .released .ensures))
 
 plus-requires : tie.Need-plus-requires Inv-loop μ-loop
 plus-requires c κs =
-    let field = at-field (at-test (c .before .before)) in
-    let turn = at-loop field in
-    let ((inside, small), fit) = at-start (at-begun turn) .pre in
-    omega (arith, light c, counted-in field, turn .loop .inv .most, small)
+    let ((inside, small), fit) = at-start (at-begun (at-loop (at-field (at-test (c .before .before))))) .pre in
+    omega (arith, light fit (added c), small)
 
 add-k : tie.Need-add-k Inv-loop μ-loop
 add-k c = search needs
@@ -116,19 +120,7 @@ loop-less : tie.Need-loop-less Inv-loop μ-loop
 loop-less c = search needs
 
 loop-again : tie.Need-loop-again Inv-loop μ-loop
-loop-again c =
-    let at-released = c .before in
-    let at-minus = at-released .before .before in
-    let field = at-field (at-test at-minus) in
-    let turn = at-loop field in
-    let a = at-start (at-begun turn) .args in
-    let more = weighed (a .s .now) (a .at) (turn .loop .k) _ (field .field64 .ensures) (a .factors .now) _ _ (turn .loop .inv .carbon) (at-released .released .ensures) in
-    record {
-      bound = omega arith;
-      left = rw add-one (omega (arith, counted-in field, at-minus .minus .ensures));
-      carbon = rw (c .plus .ensures) more;
-      most = rw add-one (omega (arith, light at-released, counted-in field));
-    }
+loop-again c = rw (c .plus .ensures) (added (c .before))
 
 -- the loop is over after the last of the 144
 done : (c : tie.After-loop Inv-loop μ-loop) → c .before .loop .k ≡ 144
@@ -159,10 +151,10 @@ returns-4 c =
     let all = rw (done at-end) at (turn .loop .inv) in
     let ((inside, small), fit) = start .pre in
     let read = table-read (a .s .now) (a .factors .now) (a .at) (a .m) (a .total .0) _ says (turn .before .if1 .left) in
-    (read (omega (arith, all)) (turn .loop .carbon .0) (all .carbon), (omega (arith, room), omega (arith, all, small)))
+    (read (omega (arith, all)) (turn .loop .carbon .0) (all .carbon), (omega (arith, room), omega (arith, light fit (turn .loop .inv), small)))
 
-pub read-table-spec : {M : Type 1} → statement M
-read-table-spec =
+pub read-by-entries-spec : {M : Type 1} → statement M
+read-by-entries-spec =
     tie.close
     (tie.spec
     Inv-loop

@@ -1,0 +1,3 @@
+pub mod RowLaws
+pub mod TableLaws
+pub mod ReadersLaws
