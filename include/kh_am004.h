@@ -13,7 +13,7 @@ extern "C" {
 /* The version of this header and of the library that belongs to it. The first number rises where something here changes
  * its meaning, or a figure its rule of reckoning, the second where something is added. */
 #define KH_AM004_VERSION_MAJOR 2
-#define KH_AM004_VERSION_MINOR 2
+#define KH_AM004_VERSION_MINOR 3
 
 /* Bytes of the report of n years. */
 #define KH_AM004_REPORT_BYTES(n) (64 * (size_t)(n) + 32)

@@ -280,6 +280,34 @@ def conversions():
     yield accepted("rows of CP other than PA", one_year(1, areas(E=5), areas(), table(("SE", "NF", 5)), table()), project=2478)
 
 
+def table_entries():
+    """#104: each entry is tested against the total by itself, and the sum once a row."""
+    one, greatest = base(), one_year(2, areas(E=LIMIT), areas(E=LIMIT), stays(areas(E=LIMIT)), stays(areas(E=LIMIT)))
+    for mark in ("CP", "CD"):
+        cells, none = fields(one, mark), dict.fromkeys(range(144), 0)
+        for name, places in (("in a row", (5, 6)), ("in two rows", (5, 20)), ("in the last row", (142, 143)), ("first and last", (1, 143))):
+            yield fault(7, f"{mark} with two entries of 2^63 more, {name}", one, mark, {k: 2**63 + cells[k] for k in places})
+            yield fault(7, f"{mark} of two entries of 2^63 alone, {name}", one, mark, none | dict.fromkeys(places, 2**63))
+        for k in (0, 11, 12, 131, 132, 143):
+            after = (k + 1) % 144
+            yield fault(7, f"{mark} with 2^64 - 1 at place {k}, and what wraps to the total", one, mark, {k: -1, after: cells[k] + cells[after] + 1})
+            yield fault(7, f"{mark} of 2^64 - 1 at place {k} alone", one, mark, none | {k: -1})
+            yield accepted(f"{mark} with the total at place {k} alone", put(greatest, mark, none | {k: LIMIT}))
+            yield fault(7, f"{mark} with one more than the total at place {k} alone", greatest, mark, none | {k: LIMIT + 1})
+            yield fault(7, f"{mark} with the total at place {k}, and 1 elsewhere", greatest, mark, none | {k: LIMIT, (k + 70) % 144: 1})
+        for r in range(12):
+            for name, more in (("less", -1), ("more", 1)):
+                yield fault(7, f"{mark} with one {name} in row {r}", greatest, mark, none | {12 * r + 3: LIMIT // 2, 12 * r + 8: LIMIT // 2 + more})
+        yield fault(7, f"{mark} with the total in all of a row", greatest, mark, dict.fromkeys(range(24, 36), LIMIT))
+        yield fault(7, f"{mark} with a last row that is missing", greatest, mark, none | {0: LIMIT - 12})
+        last = none | {0: LIMIT - 12} | dict.fromkeys(range(132, 144), 1)
+        yield fault(7, f"{mark} with a last row one too much", greatest, mark, last | {143: 2})
+        yield accepted(f"{mark} with a last row that is right", put(greatest, mark, last))
+    for k, number in ((0, 1), (143, 1), (143, -1), (77, 2**63)):
+        yield fault(7, f"CD with {number} at place {k} where DA is zero", emitting(), "CD", {k: number})
+    yield fault(7, "CD with two entries of 2^63 where DA is zero", emitting(), "CD", {143: 2**63, 142: 2**63})
+
+
 FIELD_NAMES = {"FU": ("kind", "grams"), "VE": ("kind", "count", "average", "rate"), "NI": ("source", "crop", "grams", "content"),
                "LI": ("material", "grams")}
 
@@ -1162,7 +1190,7 @@ def second_years():
 
 # Writing
 
-VECTORS = (examples, edges, cuts, marks, heads, totals, rows, years, conversions, activities, kinds, sixty, endings, orders, buffers,
+VECTORS = (examples, edges, cuts, marks, heads, totals, rows, years, conversions, table_entries, activities, kinds, sixty, endings, orders, buffers,
            slips, roundings, bad_years, every_class, projections, stock_limits, stock_cuts, stock_places, stock_lists, stock_orders,
            stock_amounts, plan_forms, plan_faults, plan_records, plan_cuts, plan_marks, plan_first, planned_places, planned_ends,
            planned_lacking, planned_orders, planned_shares, planned_grams, planned_years, planned_amounts, record_ends, calendar, last_marks,

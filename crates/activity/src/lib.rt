@@ -74,7 +74,7 @@ fn n2o_share(source: u64, crop: u64) -> u64
 
 // Grams of CO2 from grams of a material, factor from each divisor of them.
 fn by_factor(grams: u64, factor: u64, divisor: u64) -> Grams
-    requires { ⌜ (grams ≤ 1000000000000) × (factor ≤ 318630) × (1 ≤ divisor) ⌝ }
+    requires { ⌜ (grams ≤ 1000000000000) × (factor ≤ 318630) × (1 ≤ divisor) × (divisor ≤ 100000) ⌝ }
     ensures { λ r. ⌜ r .0 ≡ pos (ceilDiv (grams * factor) divisor) ⌝ }
 {
     Grams::of(arithmetic::divided_up(grams * factor, divisor))

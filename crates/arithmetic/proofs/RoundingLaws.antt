@@ -1,8 +1,8 @@
 -- What the roundings are, and how a product that passes 64 bits is divided in two steps.
 -- Assumes nothing.
-use mathlib.Core.Path.{_≡_, sym}
+use mathlib.Core.Path.{_≡_}
 use Prim.Native.Nat.{ℕ, _+_, _-_, _*_, _/_, _%_, _≤_, _<_}
-use native.Mathlib.Nat.{div-add-mod', mod-lt, add-mul-div-right, div-eq-of-lt-le, div-mul-le-self, lt-div-mul-add, div-zero, lt-of-mul-lt-mul-right}
+use native.Mathlib.Nat.{div-add-mod', add-mul-div-right, div-mul-le-self, lt-div-mul-add, lt-of-mul-lt-mul-right}
 use native.Mathlib.Omega.{arith}
 use Rattle.arithmetic.specs.Rounding.{ceilDiv}
 
@@ -31,16 +31,3 @@ split-down c n m h =
 pub split-up : (c n m : ℕ) → 0 < m → c / m * n + ceilDiv (c % m * n) m ≡ ceilDiv (c * n) m
 unfolding ceilDiv
 split-up c n m h = rw (split-parts c n m (m - 1), add-mul-div-right (c % m * n + (m - 1)) (c / m * n) h) (omega arith)
-
--- ---- a quotient rounded up from the one rounded down
-pub ceilDiv-none : (n : ℕ) → 0 ≡ ceilDiv n 0
-unfolding ceilDiv
-ceilDiv-none n = sym (div-zero (n + (0 - 1)))
-
-pub ceilDiv-even : (n d : ℕ) → 0 < d → n % d ≡ 0 → n / d ≡ ceilDiv n d
-unfolding ceilDiv
-ceilDiv-even n d h e = sym (div-eq-of-lt-le d (omega (arith, div-add-mod' n d)) (omega (arith, div-add-mod' n d)))
-
-pub ceilDiv-odd : (n d : ℕ) → 0 < d → (n % d ≡ 0 → ⊥) → n / d + 1 ≡ ceilDiv n d
-unfolding ceilDiv
-ceilDiv-odd n d h e = sym (div-eq-of-lt-le d (omega (arith, div-add-mod' n d, e)) (omega (arith, div-add-mod' n d, mod-lt n h)))

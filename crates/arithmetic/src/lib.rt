@@ -1,19 +1,15 @@
 // Division rounded up, and the size of a signed number.
 ghost use mathlib.Core.Path.{_≡_};
+ghost use Prim.Native.Nat.{_+_, _-_, _^_, _≤_, _<_};
 ghost use lib.Signed.{mag};
 ghost use Rattle.arithmetic.specs.Rounding.{ceilDiv};
 
-// n ÷ d, rounded up; 0 where d is 0.
+// n ÷ d, rounded up.
 pub fn divided_up(n: u64, d: u64) -> u64
+    requires { ⌜ (1 ≤ d) × (n + (d - 1) < 2 ^ 64) ⌝ }
     ensures { λ r. ⌜ r ≡ ceilDiv n d ⌝ }
 {
-    if d == 0 {
-        return 0;
-    }
-    if n % d == 0 {
-        return n / d;
-    }
-    n / d + 1
+    (n + (d - 1)) / d
 }
 
 // n, both of n and of -(n + 1).

@@ -12,16 +12,16 @@ use Rattle.activity.proofs.by_factor.Statement.{statement}
 use Rattle.activity.proofs.by_factor.Tie as tie
 
 product-le : (c : tie.Start) → c .args .grams * c .args .factor ≤ 318630000000000000
-product-le c = let (grams, factor, divisor) = c .pre in omega (arith, mul-le-mul grams factor)
+product-le c = let (grams, factor, _, _) = c .pre in omega (arith, mul-le-mul grams factor)
 
 quotient-le : (c : tie.Start) → ceilDiv (c .args .grams * c .args .factor) (c .args .divisor) ≤ 318630000000000000
-quotient-le c = let (grams, factor, divisor) = c .pre in ceilDiv-le _ _ _ divisor (omega (arith, mul-le-mul (product-le c) divisor))
+quotient-le c = let (_, _, divisor, _) = c .pre in ceilDiv-le _ _ _ divisor (omega (arith, mul-le-mul (product-le c) divisor))
 
 mul-divided-up : tie.Need-mul-divided-up
 mul-divided-up c = omega (arith, product-le c)
 
 divided-up-requires : tie.Need-divided-up-requires
-divided-up-requires c κs = search needs
+divided-up-requires c κs = let (_, _, divisor, most) = c .pre in (divisor, omega (arith, product-le c, most))
 
 of-requires : tie.Need-of-requires
 of-requires c κs = omega (arith, c .divided-up .ensures, quotient-le (c .before))

@@ -27,6 +27,9 @@ nitrogen-most c = let (source, (crop, (grams, content))) = c .before .pre in ome
 weight-most : (c : tie.After-n2o-share) → weight c ≤ 4671150
 weight-most c = omega arith
 
+remainder-most : (c : tie.After-n2o-share) → nitrogen c % 7000000000 * weight c ≤ 32698050000000000
+remainder-most c = let r : nitrogen c % 7000000000 ≤ 7000000000 = omega arith in omega (arith, mul-le-mul r (weight-most c))
+
 -- the sum is the rounded whole, within its bound
 sum-is : (c : tie.After-divided-up) → let n = c .before in nitrogen n / 7000000000 * weight n + c .divided-up .result ≡ ceilDiv (nitrogen n * weight n) 7000000000
 sum-is c = rw (c .divided-up .ensures) (split-up _ _ 7000000000 (lit≤ tt))
@@ -44,10 +47,10 @@ mul-nitrogen : tie.Need-mul-nitrogen
 mul-nitrogen c = omega (arith, nitrogen-most c)
 
 mul-divided-up : tie.Need-mul-divided-up
-mul-divided-up c = let r : nitrogen c % 7000000000 ≤ 7000000000 = omega arith in omega (arith, mul-le-mul r (weight-most c))
+mul-divided-up c = omega (arith, remainder-most c)
 
 divided-up-requires : tie.Need-divided-up-requires
-divided-up-requires c κs = search needs
+divided-up-requires c κs = (omega arith, omega (arith, remainder-most c))
 
 mul-of : tie.Need-mul-of
 mul-of c = omega (arith, sum-is c, sum-le c)

@@ -17,7 +17,7 @@ mul-divided-up : tie.Need-mul-divided-up
 mul-divided-up c = search needs
 
 divided-up-requires : tie.Need-divided-up-requires
-divided-up-requires c κs = search needs
+divided-up-requires c κs = (omega arith, omega (arith, c .before .pre))
 
 of-requires : tie.Need-of-requires
 of-requires c κs = rw (emitted c) (omega (arith, emissions-small (c .before .before .pre)))
