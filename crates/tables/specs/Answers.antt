@@ -1,5 +1,5 @@
 -- A table as the reckoning takes it, by its carbon, and what the reader's answer says.
--- Serves contracts of inner functions and proofs; nothing here has to be believed. Assumes nothing.
+-- Serves contracts of inner functions; to be believed only with the claim of #104 (`Readers`), which speaks of that contract. Assumes nothing.
 use Prim.Native.Nat.{ℕ, _≤_}
 use mathlib.Core.List.{List}
 use lib.ListN.{length, drop}

@@ -57,7 +57,7 @@ fn with_next(
     }
 }
 
-// The row that begins at a place, weighed by the factors from place k on.
+// The row that begins at a place, weighed by the factors from place k on. Twelve calls, for the compiler would leave a loop of them a loop, which is slower.
 fn read_row(s: &[u8], at: usize, total: AreaUnits, factors: &[u64; 144], k: usize) -> Row
     requires { ⌜ (k + 12 ≤ 144) × (at + 96 ≤ length (now s)) × SmallArea (total .0) ⌝ }
     requires { ⌜ FactorsFit (now factors) ⌝ }
