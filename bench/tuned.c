@@ -1,7 +1,7 @@
 /* The yardstick of the benchmark: the same steps as tests/plain.c, written for speed. Loads and stores are byte-swapped
  * words; no product and no division is wider than 64 bits; a table is weighed as it is read, a row of twelve at a time; no
- * table is copied. A plan is judged once, and its index says where a year's records stand. It
- * is not proved: tests/run compares it as it does the plain one. */
+ * table is copied. A plan is judged once, and its index says where a year's records stand. It is not proved: tests/run
+ * compares it as it does the plain one, by clang too where that is there. */
 #include "plain.h"
 #include <string.h>
 
@@ -49,16 +49,15 @@ INLINE uint32_t areas(bytes s, uint64_t area[12], uint64_t *sum)
     return above | (all > MOST);
 }
 
-/* a table of conversions, weighed as it is read; 7 where its sum is not the starting area. By gcc it is fastest with each
- * entry tested against the total as it is read, and a row's sum against what is left; by clang with a row's entries tested
- * together against the greatest total, and the sum at the end. */
+/* a table of conversions, weighed as it is read; 7 where its sum is not the starting area. Each compiler has the form that
+ * is fastest by it: gcc with each entry tested against the total as it is read, and a row's sum against what is left; clang
+ * with the twelve entries of a row tested together, against the greatest total, and the sum at the end. */
+#ifdef __clang__
 INLINE uint32_t monitored(bytes s, uint64_t start, uint64_t counted[12][12], uint64_t *emitted)
 {
-    uint64_t left = start, carbon = 0;
+    uint64_t sum = 0, carbon = 0;
     for (int i = 0; i < 12; i++) {
-        uint64_t row = 0;
-#ifdef __clang__
-        uint64_t cell[12], weight = 0;
+        uint64_t cell[12], row = 0, weight = 0;
         int above = 0;
         UNROLL for (int j = 0; j < 12; j++)
             cell[j] = field64(s + 96 * i + 8 * j);
@@ -70,8 +69,18 @@ INLINE uint32_t monitored(bytes s, uint64_t start, uint64_t counted[12][12], uin
         }
         if (above)
             return 7;
+        sum += row;
         carbon += weight;
+    }
+    *emitted = up(carbon * 11, 300);
+    return sum != start ? 7 : 0;
+}
 #else
+INLINE uint32_t monitored(bytes s, uint64_t start, uint64_t counted[12][12], uint64_t *emitted)
+{
+    uint64_t left = start, carbon = 0;
+    for (int i = 0; i < 12; i++) {
+        uint64_t row = 0;
         UNROLL for (int j = 0; j < 12; j++) {
             uint64_t cell = field64(s + 96 * i + 8 * j);
             if (cell > start)
@@ -81,12 +90,12 @@ INLINE uint32_t monitored(bytes s, uint64_t start, uint64_t counted[12][12], uin
         }
         if (row > left)
             return 7;
-#endif
         left -= row;
     }
     *emitted = up(carbon * 11, 300);
     return left ? 7 : 0;
 }
+#endif
 
 /* a year's projection: the areas and the balance move on, and the carbon is answered */
 INLINE uint64_t project(uint64_t area[12], uint64_t *balance, uint64_t matrix[12][12], uint64_t factors[12][12])

@@ -11,7 +11,8 @@ extern "C" {
 #endif
 
 /* The version of this header and of the library that belongs to it. The first number rises where something here changes
- * its meaning, or a figure its rule of reckoning, the second where something is added. */
+ * its meaning, or a figure its rule of reckoning, the second where something is added or, with the same answers, takes
+ * less time. */
 #define KH_AM004_VERSION_MAJOR 2
 #define KH_AM004_VERSION_MINOR 3
 

@@ -298,7 +298,7 @@ def table_entries():
         for r in range(12):
             for name, more in (("less", -1), ("more", 1)):
                 yield fault(7, f"{mark} with one {name} in row {r}", greatest, mark, none | {12 * r + 3: LIMIT // 2, 12 * r + 8: LIMIT // 2 + more})
-        yield fault(7, f"{mark} with the total in all of a row", greatest, mark, dict.fromkeys(range(24, 36), LIMIT))
+        yield fault(7, f"{mark} with the total in all of a row", greatest, mark, none | dict.fromkeys(range(24, 36), LIMIT))
         yield fault(7, f"{mark} with a last row that is missing", greatest, mark, none | {0: LIMIT - 12})
         last = none | {0: LIMIT - 12} | dict.fromkeys(range(132, 144), 1)
         yield fault(7, f"{mark} with a last row one too much", greatest, mark, last | {143: 2})
@@ -306,6 +306,7 @@ def table_entries():
     for k, number in ((0, 1), (143, 1), (143, -1), (77, 2**63)):
         yield fault(7, f"CD with {number} at place {k} where DA is zero", emitting(), "CD", {k: number})
     yield fault(7, "CD with two entries of 2^63 where DA is zero", emitting(), "CD", {143: 2**63, 142: 2**63})
+    yield accepted("CD of zeros where DA is zero", emitting())
 
 
 FIELD_NAMES = {"FU": ("kind", "grams"), "VE": ("kind", "count", "average", "rate"), "NI": ("source", "crop", "grams", "content"),

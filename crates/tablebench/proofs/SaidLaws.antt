@@ -1,7 +1,7 @@
 -- The carbon of both tables, from what the readers answered.
 -- Assumes nothing.
 use Prim.Native.Nat.{ℕ, _+_}
-use mathlib.Core.Path.{_≡_, refl, sym, ap, _∙_}
+use mathlib.Core.Path.{_≡_, ap, _∙_}
 use mathlib.Core.List.{List}
 use lib.ListN.{drop}
 use Rattle.classes.specs.declared.CarbonUnits.{CarbonUnits}

@@ -1,7 +1,6 @@
 -- What both calls of the benchmark answer: the carbon of the two tables of a year together, and 0 where one is refused.
 -- Serves the contracts of this crate; nothing here has to be believed. Assumes nothing.
 use Prim.Native.Nat.{ℕ, _+_}
-use Rattle.classes.specs.declared.CarbonUnits.{CarbonUnits}
 use Rattle.figures.specs.Ranges.{SmallCarbon}
 use Rattle.dossier.specs.Marks.{CP, CD}
 use Rattle.dossier.specs.Reader.{Judged, refused, accepted, Reader, _>>=_, give}

@@ -64,7 +64,7 @@ fn with_belt(project: CarbonUnits, belt: TableAnswer) -> u64
     }
 }
 
-// The carbon of CP and CD from a place, both of this total, by the reader since #104 and by the one before it. bench/tables sees to the ranges.
+// The carbon of CP and CD from a place, both of this total, by the reader since #104; bench/tables.c sees to the ranges.
 #[no_mangle]
 pub extern "C" fn tables_by_rows(s: &[u8], at: usize, total: u64, factors: &[u64; 144]) -> u64
     requires { ⌜ (at ≤ length (now s)) × SmallArea total ⌝ }
@@ -82,6 +82,7 @@ pub extern "C" fn tables_by_rows(s: &[u8], at: usize, total: u64, factors: &[u64
     }
 }
 
+// The same by the reader before it.
 #[no_mangle]
 pub extern "C" fn tables_by_entries(s: &[u8], at: usize, total: u64, factors: &[u64; 144]) -> u64
     requires { ⌜ (at ≤ length (now s)) × SmallArea total ⌝ }

@@ -1,33 +1,31 @@
 -- #104: both readers refuse the same tables and give the same entries, for the contract that both meet leaves one answer.
 -- Assumes nothing.
-use Prim.Native.Nat.{ℕ, zero, suc, _+_, _-_, _*_, _^_, _≤_, _<_}
+use Prim.Native.Nat.{ℕ, zero, suc, _+_, _-_, _*_, _≤_, _<_}
 use mathlib.Core.Path.{_≡_, refl, sym, ap, _∙_}
 use mathlib.Core.Bool.{Bool, true, false, cond}
-use mathlib.Core.Logic.{_↔_}
 use mathlib.Core.List.{List, [], _++_}
 use native.Mathlib.Nat.{zero-add, mul-one, mul-zero}
 use native.Mathlib.Omega.{arith}
 use lib.Dec.{eqb}
-use lib.ListN.{length, drop, getD, length-drop, length-append, drop-of-length-le}
+use lib.ListN.{length, drop, getD, length-drop, length-append}
+use lib.Seq.{drop-drop, drop-append-add}
 use borrow.Author.Tests.{eqb-true, eqb-false, eq-eqb, ne-eqb}
-use Rattle.arithmetic.specs.Sum.{sum, listed}
-use Rattle.arithmetic.proofs.SumLaws.{sum-cong, listed-le, getD-listed}
+use Rattle.arithmetic.specs.Sum.{sum}
+use Rattle.arithmetic.proofs.SumLaws.{sum-cong, length-listed, listed-le, getD-listed}
 use Rattle.classes.specs.declared.CarbonUnits.{CarbonUnits}
-use Rattle.classes.specs.Classes.{greatestStock}
+use Rattle.classes.specs.Classes.{greatestArea, greatestStock}
 use Rattle.classes.specs.Matrix.{entry}
-use Rattle.projection.specs.Ranges.{SmallArea, FactorsFit}
 use Rattle.figures.specs.Figures.{monitoredCarbon}
 use Rattle.figures.proofs.FiguresLaws.{monitored-places}
-use Rattle.wire.specs.Bytes.{Bytes, bytes, numbers, total}
+use Rattle.wire.specs.Bytes.{bytes, numbers, total}
 use Rattle.wire.proofs.BytesLaws.{length-bytes}
 use Rattle.dossier.specs.Reader.{Judged, refused, accepted, after, _>>=_, _>>_, give, fields, equal}
 use Rattle.dossier.specs.JudgingRecords.{conversions}
 use Rattle.dossier.specs.Claims.{numberOf}
-use Rattle.dossier.proofs.ReaderLaws.{no, never, was, begin-yes, bind-no, bind-yes}
-use Rattle.cursor.proofs.AtLaws.{reading}
+use Rattle.dossier.proofs.ReaderLaws.{no, never, was, begin-yes}
 use Rattle.tables.specs.declared.TableAnswer.{TableAnswer}
 use Rattle.tables.specs.Answers.{monitoredTable, tableSays, tableInside}
-use Rattle.tables.specs.Readers.{Reads, only, SameTables}
+use Rattle.tables.specs.Readers.{Factors, Reads, only, SameTables}
 
 -- ---- what an answer says settles it
 refused-is : {m n : ℕ} → _≡_ {A = Judged CarbonUnits} (refused m) (refused n) → m ≡ n
@@ -65,8 +63,8 @@ sum-only (suc n) f k h = go (eqb n k) refl (sum-only n f k)
     go true e before = rw (e, sum-before n f k (omega (arith, eqb-true n k e)), mul-one, eqb-true n k e, zero-add)
     go false e before = rw (e, mul-zero) (omega (arith, before (omega (arith, eqb-false n k e))))
 
-only-fits : (k : ℕ) → FactorsFit (only k)
-only-fits k = listed-le 144 (λ i. cond (eqb i k) 1 0) greatestStock (λ i. go (eqb i k))
+only-fits : (k : ℕ) → Factors (only k)
+only-fits k = (length-listed 144 (λ i. cond (eqb i k) 1 0), listed-le 144 (λ i. cond (eqb i k) 1 0) greatestStock (λ i. go (eqb i k)))
   where
     go : (b : Bool) → cond b 1 0 ≤ greatestStock
     go true = omega arith
@@ -78,56 +76,69 @@ only-carbon xs k h =
     ∙ sum-cong 144 (λ i. getD xs i 0 * getD (only k) i 0) (λ i. getD xs i 0 * cond (eqb i k) 1 0) (λ i l. rw (getD-listed {A = ℕ} 144 (λ i. cond (eqb i k) 1 0) i 0 l))
     ∙ sum-only 144 (λ i. getD xs i 0) k h
 
--- ---- a mark and 1,152 bytes
-module _ (mark settledTotal : ℕ) (body : List ℕ) (h : mark < 65536) (full : length body ≡ 1152) where
-  judged : conversions mark settledTotal (bytes 2 mark ++ body) ≡ cond (eqb (total (numbers 144 8 body)) settledTotal) (accepted (numbers 144 8 body) []) (refused 7)
+-- ---- a mark, 1,152 bytes and whatever follows
+module _ (mark settledTotal : ℕ) (s : List ℕ) (at : ℕ) (body : List ℕ) (h : mark < 65536) (inside : at ≤ length s) (here : drop at s ≡ bytes 2 mark ++ body) (full : 1152 ≤ length body) where
+  judged : conversions mark settledTotal (drop at s) ≡ cond (eqb (total (numbers 144 8 body)) settledTotal) (accepted (numbers 144 8 body) (drop 1152 body)) (refused 7)
   unfolding conversions _>>_ _>>=_ fields equal give
-  judged =
-      rw (begin-yes mark 1152 body h (omega arith), drop-of-length-le body {i = 1152} (omega arith)) (go (eqb (total (numbers 144 8 body)) settledTotal))
+  judged = rw (here, begin-yes mark 1152 body h full) (go (eqb (total (numbers 144 8 body)) settledTotal))
     where
-      go : (b : Bool) → after (cond b (accepted (tt {0}) []) (refused 7)) (λ _ s. accepted (numbers 144 8 body) s) ≡ cond b (accepted (numbers 144 8 body) []) (refused 7)
+      go : (b : Bool) → after (cond b (accepted (tt {0}) (drop 1152 body)) (refused 7)) (λ _ s. accepted (numbers 144 8 body) s)
+          ≡ cond b (accepted (numbers 144 8 body) (drop 1152 body)) (refused 7)
       go true = refl
       go false = refl
 
   -- what both readers say of it by a table of factors
-  says : (factors : List ℕ) → monitoredTable (entry factors) mark settledTotal (bytes 2 mark ++ body)
-      ≡ cond (eqb (total (numbers 144 8 body)) settledTotal) (accepted (record { 0 = monitoredCarbon (entry factors) (numbers 144 8 body) }) []) (refused 7)
+  says : (factors : List ℕ) → monitoredTable (entry factors) mark settledTotal (drop at s)
+      ≡ cond (eqb (total (numbers 144 8 body)) settledTotal) (accepted (record { 0 = monitoredCarbon (entry factors) (numbers 144 8 body) }) (drop 1152 body)) (refused 7)
   unfolding monitoredTable _>>=_ give
   says factors = rw judged (go (eqb (total (numbers 144 8 body)) settledTotal))
     where
-      go : (b : Bool) → _≡_ {A = Judged CarbonUnits} (after (cond b (accepted (numbers 144 8 body) []) (refused 7)) (λ xs s. accepted (record { 0 = monitoredCarbon (entry factors) xs }) s))
-          (cond b (accepted (record { 0 = monitoredCarbon (entry factors) (numbers 144 8 body) }) []) (refused 7))
+      go : (b : Bool) → _≡_ {A = Judged CarbonUnits} (after (cond b (accepted (numbers 144 8 body) (drop 1152 body)) (refused 7)) (λ xs s. accepted (record { 0 = monitoredCarbon (entry factors) xs }) s))
+          (cond b (accepted (record { 0 = monitoredCarbon (entry factors) (numbers 144 8 body) }) (drop 1152 body)) (refused 7))
       go true = refl
       go false = refl
 
-  module _ (small : SmallArea settledTotal) (answer : List ℕ → TableAnswer) (reads : Reads mark settledTotal (bytes 2 mark ++ body) answer) where
+  -- where the table ends
+  after-it : drop (at + 1154) s ≡ drop 1152 body
+  after-it = sym (drop-drop 1154 at s) ∙ ap (drop 1154) here ∙ rw (length-bytes 2 mark) at (drop-append-add (bytes 2 mark) body 1152)
+
+  long : at + 1154 ≤ length s
+  long = omega (arith, inside, full, sym (length-drop at s) ∙ ap length here ∙ length-append (bytes 2 mark) body, length-bytes 2 mark)
+
+  module _ (small : settledTotal ≤ greatestArea) (answer : List ℕ → TableAnswer) (reads : Reads mark settledTotal s at answer) where
+    ending : (factors : List ℕ) → Factors factors → Ends s (answer factors)
+    ending factors fit = ends s (answer factors) (reads factors (inside, small) fit .1)
+
+    said : (factors : List ℕ) → Factors factors → tableSays s (answer factors)
+        ≡ cond (eqb (total (numbers 144 8 body)) settledTotal) (accepted (record { 0 = monitoredCarbon (entry factors) (numbers 144 8 body) }) (drop 1152 body)) (refused 7)
+    said factors fit = reads factors (inside, small) fit .0 ∙ says factors
+
     -- refused 7, and read, by the total of the entries
-    wrong : (factors : List ℕ) → FactorsFit factors → (total (numbers 144 8 body) ≡ settledTotal → ⊥) → answer factors ≡ TableAnswer.Refused 7
-    wrong factors fit f =
-        let (e, inside) = reads factors small fit in
-        one-answer (bytes 2 mark ++ body) (answer factors) (TableAnswer.Refused 7) (ends (bytes 2 mark ++ body) (answer factors) inside) tt (e ∙ says factors ∙ rw (ne-eqb _ _ f))
+    wrong : (factors : List ℕ) → Factors factors → (total (numbers 144 8 body) ≡ settledTotal → ⊥) → answer factors ≡ TableAnswer.Refused 7
+    wrong factors fit f = one-answer s (answer factors) (TableAnswer.Refused 7) (ending factors fit) tt (said factors fit ∙ rw (ne-eqb _ _ f))
 
-    right : (factors : List ℕ) → FactorsFit factors → total (numbers 144 8 body) ≡ settledTotal
-        → answer factors ≡ TableAnswer.Read (record { 0 = monitoredCarbon (entry factors) (numbers 144 8 body) }) 1154
-    right factors fit f =
-        let (e, inside) = reads factors small fit in
-        let long : length (bytes 2 mark ++ body) ≡ 1154 = length-append (bytes 2 mark) body ∙ omega (arith, length-bytes 2 mark) in
-        one-answer (bytes 2 mark ++ body) (answer factors) _ (ends (bytes 2 mark ++ body) (answer factors) inside) (omega arith)
-        (e ∙ says factors ∙ rw (eq-eqb _ _ f, drop-of-length-le (bytes 2 mark ++ body) {i = 1154} (omega arith)))
+    right : (factors : List ℕ) → Factors factors → total (numbers 144 8 body) ≡ settledTotal
+        → answer factors ≡ TableAnswer.Read (record { 0 = monitoredCarbon (entry factors) (numbers 144 8 body) }) (at + 1154)
+    right factors fit f = one-answer s (answer factors) _ (ending factors fit) long (said factors fit ∙ rw (eq-eqb _ _ f, after-it))
 
-pub same-tables : (mark settledTotal : ℕ) (body : List ℕ) → mark < 65536 → Bytes body → length body ≡ 1152 → SmallArea settledTotal
-    → (before since : List ℕ → TableAnswer) → Reads mark settledTotal (bytes 2 mark ++ body) before → Reads mark settledTotal (bytes 2 mark ++ body) since
-    → SameTables mark settledTotal body before since
-same-tables mark settledTotal body h b full small before since old new = record {
+pub same-tables : (mark settledTotal : ℕ) (s : List ℕ) (at : ℕ) (body : List ℕ) → mark < 65536 → at ≤ length s → drop at s ≡ bytes 2 mark ++ body → 1152 ≤ length body → settledTotal ≤ greatestArea
+    → (before since : List ℕ → TableAnswer) → Reads mark settledTotal s at before → Reads mark settledTotal s at since → SameTables mark settledTotal s at body before since
+same-tables mark settledTotal s at body h inside here full small before since old new = record {
   same = λ factors fit.
-      let (e, inside) = old factors small fit in
-      let (f, inside′) = new factors small fit in
-      one-answer (bytes 2 mark ++ body) (since factors) (before factors) (ends (bytes 2 mark ++ body) (since factors) inside′) (ends (bytes 2 mark ++ body) (before factors) inside) (f ∙ sym e);
-  seven = λ factors fit. (
-    λ e z. never _ _ _ (ap (tableSays []) (sym (right mark settledTotal body h full small since new factors fit z) ∙ e)),
-    wrong mark settledTotal body h full small since new factors fit,
-  );
-  wrapped = λ factors fit n e. wrong mark settledTotal body h full small since new factors fit (λ z. omega arith);
-  entries = λ k l e. rw (right mark settledTotal body h full small since new (only k) (only-fits k) e, only-carbon (numbers 144 8 body) k l);
-  judged = judged mark settledTotal body h full;
+      one-answer s (since factors) (before factors) (end since new factors fit) (end before old factors fit)
+      (new factors (inside, small) fit .0 ∙ sym (old factors (inside, small) fit .0));
+  seven = λ factors fit. (λ e z. never _ _ _ (ap (tableSays []) (sym (read factors fit z) ∙ e)), refuse factors fit);
+  wrapped = λ factors fit n e. refuse factors fit (λ z. omega arith);
+  entries = λ k l e. (only-fits k, rw (read (only k) (only-fits k) e, only-carbon (numbers 144 8 body) k l));
+  judged = judged mark settledTotal s at body h inside here full;
 }
+  where
+    end : (answer : List ℕ → TableAnswer) → Reads mark settledTotal s at answer → (factors : List ℕ) → Factors factors → Ends s (answer factors)
+    end = ending mark settledTotal s at body h inside here full small
+
+    refuse : (factors : List ℕ) → Factors factors → (total (numbers 144 8 body) ≡ settledTotal → ⊥) → since factors ≡ TableAnswer.Refused 7
+    refuse = wrong mark settledTotal s at body h inside here full small since new
+
+    read : (factors : List ℕ) → Factors factors → total (numbers 144 8 body) ≡ settledTotal
+        → since factors ≡ TableAnswer.Read (record { 0 = monitoredCarbon (entry factors) (numbers 144 8 body) }) (at + 1154)
+    read = right mark settledTotal s at body h inside here full small since new

@@ -26,7 +26,7 @@ use Rattle.tables.specs.Rows.{someAbove, sound, weighed, rowOf}
 not-both : true ≡ false → ⊥
 not-both e = let z : _≡_ {A = ℕ} 1 0 = ap (λ (b : Bool). cond b 1 0) e in omega arith
 
-pub above-total : (most : ℕ) (xs : List ℕ) → someAbove most xs ≡ true → most < total xs
+above-total : (most : ℕ) (xs : List ℕ) → someAbove most xs ≡ true → most < total xs
 unfolding someAbove total
 above-total most [] e = absurd (not-both (sym e))
 above-total most (x ∷ xs) e = go (ltb most x) (ltb-true most x) (above-total most xs) e
@@ -35,7 +35,7 @@ above-total most (x ∷ xs) e = go (ltb most x) (ltb-true most x) (above-total m
     go true above later e = omega (arith, above refl)
     go false above later e = omega (arith, later e)
 
-pub total-within : (most : ℕ) (xs : List ℕ) → someAbove most xs ≡ false → total xs ≤ length xs * most
+total-within : (most : ℕ) (xs : List ℕ) → someAbove most xs ≡ false → total xs ≤ length xs * most
 unfolding someAbove total
 total-within most [] e = omega arith
 total-within most (x ∷ xs) e = go (ltb most x) (ltb-false most x) (total-within most xs) e
@@ -100,10 +100,10 @@ went-on most (x ∷ xs) ys e = go (ltb most x) (went-on most xs ys) e
 
 -- ---- the row with one conversion more
 module _ (most : ℕ) (factors : List ℕ) (k : ℕ) (xs : List ℕ) (x : ℕ) where
-  pub row-stays : someAbove most xs ≡ true → rowOf most factors k xs ≡ rowOf most factors k (xs ++ x ∷ [])
+  row-stays : someAbove most xs ≡ true → rowOf most factors k xs ≡ rowOf most factors k (xs ++ x ∷ [])
   row-stays e = let (a, l) = stopped most xs (x ∷ []) e in rw (e, a, l)
 
-  pub row-ends : someAbove most xs ≡ false → most < x
+  row-ends : someAbove most xs ≡ false → most < x
       → _≡_ {A = Row} (record { above = true; sum = record { 0 = total (sound most xs) }; carbon = record { 0 = weighed factors k (sound most xs) } })
       (rowOf most factors k (xs ++ x ∷ []))
   unfolding someAbove sound
@@ -113,7 +113,7 @@ module _ (most : ℕ) (factors : List ℕ) (k : ℕ) (xs : List ℕ) (x : ℕ) w
       let n : sound most (x ∷ []) ≡ [] = rw (lt-ltb most x o) in
       rw (a, l, t, n, append-nil, sound-all most xs e)
 
-  pub row-grows : someAbove most xs ≡ false → x ≤ most → (sum carbon : ℕ) → sum ≡ total (sound most xs) + x → carbon ≡ weighed factors k (sound most xs) + x * getD factors (k + length xs) 0
+  row-grows : someAbove most xs ≡ false → x ≤ most → (sum carbon : ℕ) → sum ≡ total (sound most xs) + x → carbon ≡ weighed factors k (sound most xs) + x * getD factors (k + length xs) 0
       → _≡_ {A = Row} (record { above = false; sum = record { 0 = sum }; carbon = record { 0 = carbon } }) (rowOf most factors k (xs ++ x ∷ []))
   unfolding someAbove sound total weighed
   row-grows e o sum carbon es ec =

@@ -7,10 +7,9 @@ use Prim.Native.Nat.{ℕ, _+_, _*_, _≤_, _<_}
 use native.Mathlib.Nat.{mul-comm, zero-add}
 use native.Mathlib.Omega.{arith}
 use lib.Dec.{eqb}
-use lib.ListN.{length, drop, getD}
+use lib.ListN.{drop, getD}
 use lib.Seq.{drop-drop}
 use borrow.Author.Tests.{eq-eqb, ne-eqb}
-use Rattle.arithmetic.specs.Sum.{sum}
 use Rattle.arithmetic.proofs.SumLaws.{sum-cong}
 use Rattle.classes.specs.declared.CarbonUnits.{CarbonUnits}
 use Rattle.classes.specs.Classes.{greatestStock}
@@ -40,7 +39,7 @@ pub record SoFar (s factors : List ℕ) (at all rest units k : ℕ) : Type 0 whe
   pub left : total (cells s at k) + rest ≡ all
   pub carbon : units ≡ weighed factors 0 (cells s at k)
 
-pub weighed-all : (s factors : List ℕ) (at : ℕ) → weighed factors 0 (cells s at 144) ≡ monitoredCarbon (entry factors) (cells s at 144)
+weighed-all : (s factors : List ℕ) (at : ℕ) → weighed factors 0 (cells s at 144) ≡ monitoredCarbon (entry factors) (cells s at 144)
 weighed-all s factors at =
     let places = rw (length-numbers 144 8 (drop (at + 2) s)) at (weighed-places factors 0 (cells s at 144)) in
     places ∙ sum-cong 144 (λ i. getD (cells s at 144) i 0 * getD factors (0 + i) 0) (λ i. getD (cells s at 144) i 0 * getD factors i 0) (λ i h. rw zero-add)

@@ -13,7 +13,7 @@ unfoldable pub someAbove : ℕ → List ℕ → Bool
 someAbove most [] = false
 someAbove most (x ∷ xs) = ltb most x || someAbove most xs
 
--- those before the first such
+-- those before the first such, all of them where there is none
 unfoldable pub sound : ℕ → List ℕ → List ℕ
 sound most [] = []
 sound most (x ∷ xs) = cond (ltb most x) [] (x ∷ sound most xs)

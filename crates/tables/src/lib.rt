@@ -10,7 +10,7 @@ ghost use Rattle.projection.specs.Ranges.{SmallArea, FactorsFit};
 ghost use Rattle.tables.specs.Rows.{rowOf};
 ghost use Rattle.tables.specs.Answers.{monitoredTable, tableSays, tableInside};
 
-// A row of conversions as far as it is read: whether one is above the total, and the sum and the carbon of those before it.
+// A row of conversions as far as it is read: whether one is above the total, and the sum and the carbon of those before the first such, of all where there is none.
 struct Row {
     above: bool,
     sum: AreaUnits,

@@ -16,7 +16,7 @@ use Rattle.figures.specs.declared.YearDays.{YearDays}
 use Rattle.figures.specs.Year.{Year}
 use Rattle.wire.specs.Bytes.{fieldAt}
 use Rattle.dossier.specs.Marks.{YR, CP, CD}
-use Rattle.dossier.specs.Reader.{Judged, refused, accepted, Reader, after, _>>=_, give, begin, outside}
+use Rattle.dossier.specs.Reader.{refused, accepted, Reader, after, _>>=_, give, begin, outside}
 use Rattle.dossier.specs.Claims.{numberOf}
 use Rattle.dossier.specs.JudgingRecords.{conversions}
 use Rattle.dossier.specs.Judging.{taken, noneLeft, yearRecords, yearLeft}

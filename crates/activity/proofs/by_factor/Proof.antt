@@ -5,7 +5,6 @@ use mathlib.Core.Path.{_∙_, ap}
 use native.Mathlib.Nat.{mul-le-mul}
 use native.Mathlib.Omega.{arith}
 use lib.IntN.{pos}
-use borrow.Author.Needs.{needs}
 use Rattle.arithmetic.specs.Rounding.{ceilDiv}
 use Rattle.arithmetic.proofs.RoundingLaws.{ceilDiv-le}
 use Rattle.activity.proofs.by_factor.Statement.{statement}
