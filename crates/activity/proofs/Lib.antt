@@ -1,1 +1,2 @@
 pub mod ActivityLaws
+pub mod KeyLaws

@@ -5,6 +5,7 @@ ghost use Prim.Native.Nat.{_*_, _≤_};
 ghost use lib.IntN.{pos};
 ghost use Rattle.arithmetic.specs.Rounding.{ceilDiv};
 ghost use Rattle.activity.specs.Activity.{Within, fuelFactor, n2oShare, limeFactor, ActivityInRange, activityGrams};
+ghost use Rattle.activity.specs.Key.{key as keyOf};
 
 // An activity record: FU, VE, NI or LI, by its fields.
 pub enum Activity {
@@ -131,5 +132,28 @@ pub fn emissions(activity: Activity) -> Grams
             content,
         } => nitrogen_emissions(source, crop, grams, content),
         Activity::Lime { material, grams } => lime_emissions(material, grams),
+    }
+}
+
+// A record in range as one number, which tells the record: its fields, and which of the four it is.
+pub fn key(activity: Activity) -> u64
+    requires { ⌜ ActivityInRange activity ⌝ }
+    ensures { λ r. ⌜ r ≡ keyOf activity ⌝ }
+{
+    match activity {
+        Activity::Fuel { kind, grams } => (grams * 4 + kind) * 4,
+        Activity::Vehicles {
+            kind,
+            count,
+            average,
+            rate,
+        } => (((rate * 1048576 + average) * 1024 + count) * 4 + kind) * 4 + 1,
+        Activity::Nitrogen {
+            source,
+            crop,
+            grams,
+            content,
+        } => (((grams * 16384 + content) * 4 + crop) * 4 + source) * 4 + 2,
+        Activity::Lime { material, grams } => (grams * 4 + material) * 4 + 3,
     }
 }
