@@ -1,11 +1,16 @@
-"""Writes long dossiers: Option 2, stocks filed, twenty years, sixty records of VE in each.
+"""Writes long dossiers: Option 2, stocks filed, twenty years, sixty different records of VE in each.
 
     python3 bench/longest.py                              prints the longest dossier
+    python3 bench/longest.py worst                        prints one as long, in which each year's records have one slot of the proved
+                                                          reckoner's filter for equal records: what costs that filter most
     python3 bench/longest.py planned DOSSIER PLAN OWN     writes one of planned years, its plan, and the same with the records in it
 """
 import pathlib
 import struct
 import sys
+
+sys.path.insert(0, str(pathlib.Path(__file__).resolve().parents[1] / "tests" / "independent"))
+from dossiers import encode, of_one_slot  # noqa: E402
 
 AREAS = [10**12 // 12] * 12
 STOCKS = [50000 - 4000 * k for k in range(11)] + [0]
@@ -20,7 +25,8 @@ def words(code, values):
 
 
 def vehicles(rate):
-    return 60 * (b"VE" + struct.pack(">BIII", 1, 1000, 10000, rate))
+    """Sixty of different counts."""
+    return b"".join(b"VE" + struct.pack(">BIII", 1, 1000 - k, 10000, rate) for k in range(60))
 
 
 def dossier(records):
@@ -44,6 +50,8 @@ def write_planned(*paths):
 
 if sys.argv[1:2] == ["planned"] and len(sys.argv) == 5:
     write_planned(*sys.argv[2:])
+elif sys.argv[1:] == ["worst"]:
+    sys.stdout.buffer.write(dossier(encode(of_one_slot(60))))
 elif sys.argv[1:]:
     sys.exit(__doc__)
 else:

@@ -1,7 +1,8 @@
 /* The yardstick of the benchmark: the same steps as tests/plain.c, written for speed. Loads and stores are byte-swapped
  * words; no product and no division is wider than 64 bits; a table is weighed as it is read, a row of twelve at a time; no
- * table is copied. A plan is judged once, and its index says where a year's records stand. It is not proved: tests/run
- * compares it as it does the plain one, by clang too where that is there. */
+ * table is copied. A plan is judged once, and its index says where a year's records stand. Each record is packed into one
+ * word, and an equal one is looked for only where a filter has seen its slot. It is not proved: tests/run compares it as it
+ * does the plain one, by clang too where that is there. */
 #include "plain.h"
 #include <string.h>
 
@@ -127,11 +128,117 @@ INLINE uint64_t reference(uint64_t carbon, uint64_t d, int leap)
     return leap ? by_days(carbon, d, 366) : by_days(carbon, d, 365);
 }
 
-/* the activity records from s on: their emissions, and the place after the last; or the fault */
-INLINE uint32_t activities(bytes *at, bytes end, uint64_t *grams)
+/* The filter for equal records: a run marks the slots of its records with its own stamp, so that the flags are cleared once. */
+enum { SLOT_BITS = 12 };
+struct filter { uint8_t stamp, flags[1 << SLOT_BITS]; };
+
+INLINE uint32_t slot(uint64_t key) { return (uint32_t)(key * 11400714819323198485u >> (64 - SLOT_BITS)); }
+
+/* begins a run by its first record's key, once there is a second record; its stamp is answered */
+INLINE uint8_t begin_run(struct filter *filter, uint64_t first)
+{
+    if (filter->stamp == 0)
+        memset(filter->flags, 0, sizeof filter->flags);
+    return filter->flags[slot(first)] = ++filter->stamp;
+}
+
+/* whether a record equals an earlier one of its run, by their keys: these are looked through only where the run has marked
+ * the slot, and then without an early exit, so that several are compared at once */
+INLINE int repeated(struct filter *filter, uint8_t *stamp, uint64_t keys[60], int before, uint64_t key)
+{
+    if (__builtin_expect(before < 2, 0)) {
+        if (before == 0) {
+            keys[0] = key;
+            return 0;
+        }
+        *stamp = begin_run(filter, keys[0]);
+    }
+    uint32_t at = slot(key);
+    if (__builtin_expect(filter->flags[at] == *stamp, 0)) {
+        uint64_t found = 0;
+        for (int k = 0; k < before; k++)
+            found |= keys[k] == key;
+        if (found)
+            return 1;
+    }
+    filter->flags[at] = *stamp;
+    keys[before] = key;
+    return 0;
+}
+
+/* the activity records from s on: their emissions, and the place after the last; or the fault. Without a filter they are
+ * known to be different. Each compiler has the form that is fastest by it: clang a reader for each mark, gcc one for all. */
+#ifdef __clang__
+/* the readers: 8, or the emissions are added and the key is set, which has all fields and the mark */
+INLINE uint32_t read_vehicles(bytes s, uint64_t *sum, uint64_t *key)
+{
+    uint64_t kind = s[2] - 1u, count = field32(s + 3), average = field32(s + 7), each = field32(s + 11), g = count * average * each;
+    if ((kind > 2) | (count > 1000) | (average > 1000000) | (each > 100000) | (g > MOST))
+        return 8;
+    *sum += up(g * fuel[kind], 100000);
+    *key = each << 34 | average << 14 | count << 4 | kind << 2 | 1;
+    return 0;
+}
+
+INLINE uint32_t read_nitrogen(bytes s, uint64_t *sum, uint64_t *key)
+{
+    uint64_t source = s[2] - 1u, crop = s[3] - 1u, g = field64(s + 4), content = field16(s + 12);
+    if ((source > 2) | (crop > 1) | (g > 10000000000) | (content > 10000))
+        return 8;
+    uint64_t x = g * content * nitrogen[crop][source];
+    *sum += x / 7000000000 * 3278 + up(x % 7000000000 * 3278, 7000000000);
+    *key = g << 20 | content << 6 | crop << 4 | source << 2 | 2;
+    return 0;
+}
+
+INLINE uint32_t read_amount(bytes s, int liming, uint64_t *sum, uint64_t *key)
+{
+    uint64_t kind = s[2] - 1u, g = field64(s + 3);
+    if ((kind > 2) | (g > MOST))
+        return 8;
+    *sum += liming ? up(g * lime[kind], 300) : up(g * fuel[kind], 100000);
+    *key = g << 4 | kind << 2 | (liming ? 3 : 0);
+    return 0;
+}
+
+/* a record of so many bytes, and its reader */
+#define RECORD(size, read)    \
+    if (before == 60)         \
+        return 9;             \
+    if (left < (size))        \
+        return 1;             \
+    if (read)                 \
+        return 8;             \
+    s += (size)
+
+INLINE uint32_t activities(bytes *at, bytes end, struct filter *filter, uint64_t *grams)
 {
     bytes s = *at;
-    uint64_t sum = 0;
+    uint64_t sum = 0, keys[60];
+    uint8_t stamp = 0;
+    for (int before = 0;; before++) {
+        size_t left = (size_t)(end - s);
+        uint64_t key;
+        switch (left < 2 ? 0 : field16(s)) {
+        case MARK('V', 'E'): RECORD(15, read_vehicles(s, &sum, &key)); break;
+        case MARK('N', 'I'): RECORD(14, read_nitrogen(s, &sum, &key)); break;
+        case MARK('F', 'U'): RECORD(11, read_amount(s, 0, &sum, &key)); break;
+        case MARK('L', 'I'): RECORD(11, read_amount(s, 1, &sum, &key)); break;
+        default:
+            *at = s;
+            *grams = sum;
+            return 0;
+        }
+        if (filter && repeated(filter, &stamp, keys, before, key))
+            return 14;
+    }
+}
+#else
+INLINE uint32_t activities(bytes *at, bytes end, struct filter *filter, uint64_t *grams)
+{
+    bytes s = *at;
+    uint64_t sum = 0, keys[60];
+    uint8_t stamp = 0;
     for (int before = 0;; before++) {
         size_t left = (size_t)(end - s);
         uint32_t mark = left < 2 ? 0 : field16(s);
@@ -144,53 +251,62 @@ INLINE uint32_t activities(bytes *at, bytes end, uint64_t *grams)
         uint32_t kind = s[2] - 1u;
         if (kind > 2)
             return 8;
+        uint64_t key;
         if (mark == MARK('N', 'I')) {
             uint64_t crop = s[3] - 1u, g = field64(s + 4), content = field16(s + 12);
             if (crop > 1 || g > 10000000000 || content > 10000)
                 return 8;
             uint64_t x = g * content * nitrogen[crop][kind];
             sum += x / 7000000000 * 3278 + up(x % 7000000000 * 3278, 7000000000);
+            key = g << 20 | content << 6 | crop << 4 | kind << 2 | 2;
             s += 14;
-            continue;
-        }
-        uint64_t g;
-        if (mark == MARK('V', 'E')) {
-            uint64_t count = field32(s + 3), average = field32(s + 7), each = field32(s + 11);
-            if ((count > 1000) | (average > 1000000) | (each > 100000))
-                return 8;
-            g = count * average * each;
-            s += 15;
         } else {
-            g = field64(s + 3);
-            s += 11;
+            uint64_t g;
+            if (mark == MARK('V', 'E')) {
+                uint64_t count = field32(s + 3), average = field32(s + 7), each = field32(s + 11);
+                if ((count > 1000) | (average > 1000000) | (each > 100000))
+                    return 8;
+                g = count * average * each;
+                key = each << 34 | average << 14 | count << 4 | kind << 2 | 1;
+                s += 15;
+            } else {
+                g = field64(s + 3);
+                key = g << 4 | kind << 2 | (mark == MARK('L', 'I') ? 3 : 0);
+                s += 11;
+            }
+            if (g > MOST)
+                return 8;
+            sum += mark == MARK('L', 'I') ? up(g * lime[kind], 300) : up(g * fuel[kind], 100000);
         }
-        if (g > MOST)
-            return 8;
-        sum += mark == MARK('L', 'I') ? up(g * lime[kind], 300) : up(g * fuel[kind], 100000);
+        if (filter && repeated(filter, &stamp, keys, before, key))
+            return 14;
     }
     *at = s;
     *grams = sum;
     return 0;
 }
+#endif
 
 /* a plan's years in their order, and where the records of each begin */
 struct plan { uint32_t years, next, year[20]; bytes end, records[20]; };
 
-/* 12 where the plan is not of its form */
+/* 12 where the plan is not of its form, 14 for two equal records of a year */
 APART uint32_t judge(bytes s, size_t length, struct plan *plan)
 {
     bytes end = plan->end = s + length;
+    struct filter filter;
+    filter.stamp = 0;
     for (uint32_t k = 0; begin(s, end, MARK('P', 'Y'), 2) == 0; k++) {
         uint64_t grams;
-        uint32_t year = field16(s + 2);
+        uint32_t year = field16(s + 2), fault;
         if (k == 20 || (k > 0 && year <= plan->year[k - 1]))
             return 12;
         s += 4;
         plan->year[k] = year;
         plan->records[k] = s;
         plan->years = k + 1;
-        if (activities(&s, end, &grams))
-            return 12;
+        if ((fault = activities(&s, end, &filter, &grams)))
+            return fault == 14 ? 14 : 12;
     }
     return end - s == 2 && field16(s) == MARK('E', 'N') ? 0 : 12;
 }
@@ -205,7 +321,7 @@ APART uint32_t by_plan(struct plan *plan, uint32_t year, uint64_t *grams)
     if (k == plan->years || plan->year[k] != year)
         return 13;
     bytes s = plan->records[k];
-    return activities(&s, plan->end, grams);
+    return activities(&s, plan->end, NULL, grams);
 }
 
 /* ST: twelve stocks; 11 where one is out of range */
@@ -254,8 +370,9 @@ uint32_t plain_reckon(const uint8_t *dossier, size_t dossier_len, const uint8_t 
     const uint32_t *stock = built_in;
     int64_t out[8 * 20 + 4], total = 0;
     struct plan lent;
+    struct filter filter;
 
-    lent.years = lent.next = 0;
+    lent.years = lent.next = filter.stamp = 0;
     if (plan_len && (fault = judge(plan, plan_len, &lent)))
         return fault;
     if ((fault = begin(s, end, MARK('H', 'D'), 4)))
@@ -302,7 +419,7 @@ uint32_t plain_reckon(const uint8_t *dossier, size_t dossier_len, const uint8_t 
                 return fault;
         }
         int planned = begin(s, end, MARK('P', 'L'), 0) == 0;
-        if ((fault = planned ? by_plan(&lent, year, &grams) : activities(&s, end, &grams)))
+        if ((fault = planned ? by_plan(&lent, year, &grams) : activities(&s, end, &filter, &grams)))
             return fault;
         s += planned ? 2 : 0;
         int64_t *f = out + 8 * y;

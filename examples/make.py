@@ -104,7 +104,7 @@ def planned():
 
 def refusals():
     """One dossier for each refusal that bytes alone can bring, case A or another example with one fault; 12 is that of its plan, 13 that no
-    plan is lent."""
+    plan is lent, 14 that the invoice for the diesel is booked twice."""
     good, long = case_a(), twenty_years()
 
     def with_bytes(data, at, new):
@@ -120,10 +120,11 @@ def refusals():
         6: with_bytes(good, 206, struct.pack(">H", 367)),
         7: with_bytes(good, 210, struct.pack(">Q", 99_000_001)),
         8: with_bytes(good, len(good) - 11, bytes([4])),
-        9: good[:-2] + 60 * fuel + b"EN",
+        9: good[:-2] + b"".join(b"FU" + struct.pack(">BQ", 1, 100_000 + k) for k in range(1, 61)) + b"EN",
         11: with_bytes(newer_stocks(), 8, struct.pack(">H", 50_001)),
         12: planned()[0],
         13: evergreen((366, 1_000_000, b"PL")),
+        14: good[:-2] + fuel + b"EN",
     }
 
 

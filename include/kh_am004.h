@@ -11,10 +11,10 @@ extern "C" {
 #endif
 
 /* The version of this header and of the library that belongs to it. The first number rises where something here changes
- * its meaning, or a figure its rule of reckoning, the second where something is added or, with the same answers, takes
- * less time. */
-#define KH_AM004_VERSION_MAJOR 2
-#define KH_AM004_VERSION_MINOR 3
+ * its meaning, a figure its rule of reckoning, or a dossier that was accepted is refused; the second where something is
+ * added or, with the same answers, takes less time. */
+#define KH_AM004_VERSION_MAJOR 3
+#define KH_AM004_VERSION_MINOR 0
 
 /* Bytes of the report of n years. */
 #define KH_AM004_REPORT_BYTES(n) (64 * (size_t)(n) + 32)
@@ -60,7 +60,8 @@ enum kh_am004_number {
     KH_AM004_REFUSED_BUFFER = 10,
     KH_AM004_REFUSED_STOCKS = 11,
     KH_AM004_REFUSED_PLAN = 12,
-    KH_AM004_REFUSED_PLANNED = 13
+    KH_AM004_REFUSED_PLANNED = 13,
+    KH_AM004_REFUSED_REPEATED = 14
 };
 
 /* What a number says, in English; "unknown number" for any that no call answers. */
@@ -82,6 +83,8 @@ static inline const char *kh_am004_text(uint32_t number)
     case KH_AM004_REFUSED_STOCKS: return "ST: a carbon stock above 50,000, or that of NF not 0";
     case KH_AM004_REFUSED_PLAN: return "the plan: not of its form";
     case KH_AM004_REFUSED_PLANNED: return "PL: the plan lacks the year, or its emissions are not small enough";
+    case KH_AM004_REFUSED_REPEATED:
+        return "two activity records of a year are equal in mark and all fields, in the dossier or in the plan";
     default: return "unknown number";
     }
 }
@@ -89,7 +92,8 @@ static inline const char *kh_am004_text(uint32_t number)
 /*
  * Reckons a dossier, its PL years by the records that the plan has for them; plan_len 0 is no plan. 0: the report stands
  * at the start of result, and the bytes beyond it are as they were. Otherwise the number of the refusal, and every byte
- * of result is as it was. The plan is judged before the dossier, whether or not it is used.
+ * of result is as it was. The plan is judged before the dossier, whether or not it is used: any fault of it is 12, save
+ * that two equal records of a planned year are 14, as they are in a year of the dossier.
  *
  * The caller owes valid pointers: dossier to dossier_len bytes and plan to plan_len bytes that can be read and may
  * overlap, result to result_len bytes that can be written, and it must not overlap the other two. A pointer may be null

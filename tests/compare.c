@@ -1,7 +1,7 @@
 /* Compares the proved reckoner with the plain one: the same number and the same bytes on dossiers and plans sound, cut,
- * padded and spoilt; a thread stack of 64 KiB; and, on the longest dossier, no longer a time. The argument is another
- * seed; a second one leaves the times out. Where they differ it prints the seed, and target/difference.dossier and
- * target/difference.plan have the bytes. */
+ * padded and spoilt, none with two equal records in a year (#105); a thread stack of 64 KiB; and, on the longest dossier,
+ * no longer a time. The argument is another seed; a second one leaves the times out. Where they differ it prints the seed,
+ * and target/difference.dossier and target/difference.plan have the bytes. */
 #define _POSIX_C_SOURCE 200809L
 #include "kh_am004.h"
 #include "plain.h"
@@ -128,6 +128,27 @@ static void record(int kind, uint64_t share)
         put(quantity(1000000000000, share), 8);
 }
 
+/* whether the last record equals one before it, from a first one on */
+static int repeated(int first)
+{
+    size_t last = into->begins[into->records - 1];
+    for (int k = first; k < into->records - 1; k++)
+        if (memcmp(into->s + into->begins[k], into->s + last, into->n - last) == 0)
+            return 1;
+    return 0;
+}
+
+/* so many records, no two of them equal */
+static void run(int records, int kind, uint64_t share)
+{
+    int first = into->records;
+    while (into->records < first + records) {
+        record(kind, share);
+        if (repeated(first))
+            into->n = into->begins[--into->records];
+    }
+}
+
 /* a year of the plan; records below 0: at random */
 static void plan_year(int year, int records, int kind, uint64_t share)
 {
@@ -135,8 +156,7 @@ static void plan_year(int year, int records, int kind, uint64_t share)
     into = &plan;
     mark("PY");
     put((uint64_t)year, 2);
-    for (int k = records < 0 ? (int)draw(61) : records; k > 0; k--)
-        record(kind, share);
+    run(records < 0 ? (int)draw(61) : records, kind, share);
     into = before;
 }
 
@@ -204,8 +224,7 @@ static void dossier(int option, int filed, int first, int years, int planned, in
             plan_year(first + y, records, kind, small);
         if (by_plan)
             mark("PL");
-        for (int k = by_plan ? 0 : records < 0 ? (int)draw(62) : records; k > 0; k--)
-            record(kind, share);
+        run(by_plan ? 0 : records < 0 ? (int)draw(62) : records, kind, share);
     }
     end();
     into = &plan;
@@ -215,7 +234,7 @@ static void dossier(int option, int filed, int first, int years, int planned, in
         end();
 }
 
-static unsigned counts[14], positive, of_either_sign, with_stocks, with_plan;
+static unsigned counts[15], positive, of_either_sign, with_stocks, with_plan;
 
 /* counts the reports with tonnes, and those with years of either sign */
 static void count_signs(const uint8_t *report, size_t n)
@@ -268,6 +287,37 @@ static void same(const struct bytes *d, const struct bytes *p, size_t room)
 
 static size_t some_room(void) { return draw(2) ? 1312 : draw(1400); }
 
+/* the bytes of the record that begins at a place; 0 where none does, or one is cut */
+static size_t record_bytes(const struct bytes *b, size_t at)
+{
+    static const struct { char mark[3]; size_t bytes; } sizes[] = {
+        { "VE", 15 }, { "NI", 14 }, { "FU", 11 }, { "LI", 11 }, { "YR", 6 }, { "CP", 1154 }, { "CD", 1154 }, { "PL", 2 },
+        { "PY", 4 }, { "EN", 2 }, { "HD", 6 }, { "ST", 26 }, { "PA", 98 }, { "DA", 98 }, { "MP", 578 },
+    };
+    for (size_t k = 0; b->n - at >= 2 && k < sizeof sizes / sizeof *sizes; k++)
+        if (memcmp(b->s + at, sizes[k].mark, 2) == 0)
+            return sizes[k].bytes <= b->n - at ? sizes[k].bytes : 0;
+    return 0;
+}
+
+/* whether two records of a year, or of a planned one, are equal in mark and all fields */
+static int has_equal(const struct bytes *b)
+{
+    static size_t year[sizeof b->s];
+    size_t records = 0, size;
+    for (size_t at = 0; (size = record_bytes(b, at)); at += size) {
+        if (memcmp(b->s + at, "YR", 2) == 0 || memcmp(b->s + at, "PY", 2) == 0)
+            records = 0;
+        if (size < 11 || size > 15) /* no activity record */
+            continue;
+        for (size_t k = 0; k < records; k++)
+            if (memcmp(b->s + year[k], b->s + at, size) == 0)
+                return 1;
+        year[records++] = at;
+    }
+    return 0;
+}
+
 static const char *const marks[14] = { "HD", "ST", "PA", "DA", "MP", "YR", "CP", "CD", "FU", "EN", "LI", "PL", "PY", "VE" };
 
 /* makes room for n bytes at a place */
@@ -283,7 +333,8 @@ static void copy(struct bytes *b, const struct bytes *of)
     b->n = of->n;
 }
 
-static void spoil(void)
+/* a dossier spoilt in some way */
+static void spoil_dossier(void)
 {
     uint8_t *s = spoilt.s;
     size_t n = made.n, k;
@@ -314,6 +365,13 @@ static void spoil(void)
         if (made.begins[k + 1] - made.begins[k] > 2)
             s[made.begins[k] + 2 + draw(made.begins[k + 1] - made.begins[k] - 2)] = (uint8_t)draw(256);
     }
+}
+
+static void spoil(void)
+{
+    do
+        spoil_dossier();
+    while (has_equal(&spoilt));
     same(&spoilt, &plan, some_room());
 }
 
@@ -352,9 +410,10 @@ static void more_years(int years)
     end();
 }
 
-static void spoil_plan(void)
+/* a plan spoilt in some way */
+static void spoil_lent(void)
 {
-    static const uint8_t vehicles[15] = { 'V', 'E', 1 };
+    static uint8_t vehicles[15] = { 'V', 'E', 1 };
     struct bytes *b = &spoilt_plan;
     int from, to;
     some_year(&from, &to);
@@ -369,6 +428,7 @@ static void spoil_plan(void)
     case 5: /* sixty records in some year, or one more */
         for (int k = to - from - 1 - (int)draw(2); from < to && k < 60; k++) {
             insert(b, at + 4, 15);
+            vehicles[6] = (uint8_t)k;
             memcpy(b->s + at + 4, vehicles, 15);
         }
         break;
@@ -388,7 +448,14 @@ static void spoil_plan(void)
         if (draw(2))
             b->n = plan.begins[from + 1];
     }
-    same(draw(8) ? &made : &plan, b, some_room());
+}
+
+static void spoil_plan(void)
+{
+    do
+        spoil_lent();
+    while (has_equal(&spoilt_plan));
+    same(draw(8) ? &made : &plan, &spoilt_plan, some_room());
 }
 
 static void expect(uint32_t due, size_t room)
@@ -399,15 +466,16 @@ static void expect(uint32_t due, size_t room)
         differ(&made, &plan, "an edge", answer, due, room);
 }
 
-/* records whose emissions are these */
+/* records whose emissions are these: diesel as long as there is much, and urea, each time a little less than before */
 static void emit(uint64_t grams)
 {
-    while (grams) {
-        int much = grams >= 3186300000000;
-        uint64_t part = much ? 3186300000000 : grams < 700000000000 ? grams : 700000000000;
+    for (uint64_t k = 0; grams; k++) {
+        uint64_t diesel = 3186300000000 - 318630 * k, urea = 700000000000 - k;
+        int much = grams >= diesel;
+        uint64_t part = much ? diesel : grams < urea ? grams : urea;
         mark(much ? "FU" : "LI");
         put(much ? 1 : 3, 1);
-        put(much ? 1000000000000 : part * 300 / 220, 8);
+        put(much ? 1000000000000 - 100000 * k : part * 300 / 220, 8);
         grams -= part;
     }
 }
@@ -657,6 +725,8 @@ static void compare_bytes(void)
     for (int k = 0; k <= 13; k++)
         if (!counts[k])
             fail("not every number came");
+    if (counts[KH_AM004_REFUSED_REPEATED])
+        fail("a year of the comparison has two equal records");
     if (positive < counts[0] / 5 || of_either_sign < counts[0] / 20 || with_stocks < counts[0] / 5 || with_plan < counts[0] / 5)
         fail("too few of the accepted dossiers had tonnes, years of either sign, stocks of their own, or planned years");
 }

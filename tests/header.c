@@ -146,8 +146,12 @@ static void test_refusals(const uint8_t *a, size_t length, const uint8_t *longes
     spoilt("367 days", KH_AM004_REFUSED_YEAR, a, length, 207, 367 & 255);
     spoilt("a conversion one more", KH_AM004_REFUSED_CONVERSIONS, a, length, 217, (uint8_t)(a[217] + 1));
     spoilt("fuel of kind 4", KH_AM004_REFUSED_ACTIVITY, a, length, fuel + 2, 4);
-    for (size_t k = 1; k <= 60; k++)
+    memcpy(more + fuel + 11, a + fuel, 13);
+    refused("two equal records", KH_AM004_REFUSED_REPEATED, more, length + 11, room);
+    for (size_t k = 1; k <= 60; k++) {
         memcpy(more + fuel + 11 * k, a + fuel, 13);
+        more[fuel + 11 * k + 10] -= (uint8_t)k;
+    }
     refused("61 records", KH_AM004_REFUSED_RECORDS, more, length + 11 * 60, room);
     refused("a report one byte short", KH_AM004_REFUSED_BUFFER, a, length, room - 1);
 }
@@ -163,7 +167,7 @@ static void test_null(const uint8_t *a, size_t length)
     expect("no dossier beside a plan cut", reckon(NULL, 0, (const uint8_t *)"E", 1, NULL, 0), KH_AM004_REFUSED_PLAN);
 }
 
-/* A plan of so many years from one on, with so many records in each. */
+/* A plan of so many years from one on, with so many records in each, no two of them alike in their last byte. */
 static size_t make_plan(uint8_t *plan, int years, int first, int records, const uint8_t *record, size_t record_length)
 {
     size_t n = 0;
@@ -171,8 +175,10 @@ static size_t make_plan(uint8_t *plan, int years, int first, int records, const 
         const uint8_t head[4] = { 'P', 'Y', (uint8_t)(y >> 8), (uint8_t)y };
         memcpy(plan + n, head, 4);
         n += 4;
-        for (int k = 0; k < records; k++, n += record_length)
+        for (int k = 0; k < records; k++, n += record_length) {
             memcpy(plan + n, record, record_length);
+            plan[n + record_length - 1] -= (uint8_t)k;
+        }
     }
     memcpy(plan + n, "EN", 2);
     return n + 2;
@@ -203,9 +209,13 @@ static void test_plan(const uint8_t *a, size_t length)
     m = make_plan(plan, 3, 2021, 1, a + fuel, 11);
     refused_by("PL and a plan of other years", KH_AM004_REFUSED_PLANNED, year, n, plan, m, room);
     m = make_plan(plan, 1, 2020, 55, a + fuel, 11);
-    expect("55 times the fuel", reckon(year, n, plan, m, planned, room), KH_AM004_ACCEPTED);
+    expect("55 times the fuel, or little less", reckon(year, n, plan, m, planned, room), KH_AM004_ACCEPTED);
     m = make_plan(plan, 1, 2020, 56, a + fuel, 11);
-    refused_by("56 times the fuel", KH_AM004_REFUSED_PLANNED, year, n, plan, m, 0);
+    refused_by("56 times the fuel, or little less", KH_AM004_REFUSED_PLANNED, year, n, plan, m, 0);
+    m = make_plan(plan, 1, 2020, 2, a + fuel, 11);
+    memcpy(plan + 15, plan + 4, 11);
+    refused_by("a plan with two equal records", KH_AM004_REFUSED_REPEATED, year, n, plan, m, room);
+    refused_by("a plan with two equal records, beside case A", KH_AM004_REFUSED_REPEATED, a, length, plan, m, 0);
 }
 
 /* The longest plan, and what passes it. */

@@ -86,32 +86,37 @@ static int activity(struct input *in, int before, uint64_t *grams)
     return 0;
 }
 
-/* the activity records that stand here: their emissions, or the fault */
+/* the activity records that stand here: their emissions, or the fault; 14 where one equals an earlier one, byte for byte */
 static int activities(struct input *in, uint64_t *grams)
 {
-    int fault;
+    size_t begins[61];
+    int k = 0, fault;
     *grams = 0;
-    for (int k = 0; (fault = activity(in, k, grams)) == 0; k++)
-        ;
+    for (begins[0] = in->at; (fault = activity(in, k, grams)) == 0; begins[++k] = in->at)
+        for (int j = 0; j < k; j++)
+            if (memcmp(in->s + begins[j], in->s + begins[k], in->at - begins[k]) == 0)
+                return 14;
     return fault < 0 ? -fault : 0;
 }
 
-/* whether the plan is of its form; without bytes there is none to judge */
-static int is_plan(struct input plan)
+/* 12 where the plan is not of its form, 14 for two equal records of a year; without bytes there is none to judge */
+static int judge(struct input plan)
 {
-    int before = -1;
+    int before = -1, fault;
     uint64_t grams;
     if (plan.n == 0)
-        return 1;
+        return 0;
     for (int k = 0; stands(&plan, "PY"); k++) {
         if (k == 20 || begin(&plan, "PY", 2))
-            return 0;
+            return 12;
         int year = (int)field(&plan, 2);
-        if (year <= before || activities(&plan, &grams))
-            return 0;
+        if (year <= before)
+            return 12;
+        if ((fault = activities(&plan, &grams)))
+            return fault == 14 ? 14 : 12;
         before = year;
     }
-    return begin(&plan, "EN", 0) == 0 && plan.at == plan.n;
+    return begin(&plan, "EN", 0) || plan.at != plan.n ? 12 : 0;
 }
 
 /* the emissions that a plan has for a year; 13 where it lacks the year */
@@ -191,8 +196,8 @@ uint32_t plain_reckon(const uint8_t *dossier, size_t dossier_len, const uint8_t 
     wide start[2];
     int fault;
 
-    if (!is_plan(lent))
-        return 12;
+    if ((fault = judge(lent)))
+        return (uint32_t)fault;
     if ((fault = begin(&in, "HD", 4)))
         return (uint32_t)fault;
     int option = (int)field(&in, 1), first = (int)field(&in, 2), n = (int)field(&in, 1);

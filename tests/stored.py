@@ -5,8 +5,11 @@
     python3 tests/stored.py --keep    stores what this version answers: to be run before a change of the reckoning
 
 tests/stored has what both programs of an earlier version read and wrote; its example dossiers, each with its plan if it has one, are
-the last of the vectors. Vectors of a version before plans are asked with no plan.
+the last of the vectors. Vectors of a version before plans are asked with no plan. A year that has two equal records is refused 14 now
+(#105), where the independent reckoner finds no earlier fault. If it was accepted then, the calls after it, up to the next opening, go
+by a ledger without that year: what they answer is the independent ledger's to say.
 """
+import itertools
 import lzma
 import pathlib
 import re
@@ -16,7 +19,10 @@ import sys
 ROOT = pathlib.Path(__file__).resolve().parents[1]
 FOLDER = ROOT / "tests" / "stored"
 sys.path.insert(0, str(ROOT / "tests" / "independent"))
+import reckoner  # noqa: E402
 import vectors  # noqa: E402
+from compare import answer, calls_in  # noqa: E402
+from dossiers import has_equal_records  # noqa: E402
 
 
 def bad_years_whole(report):
@@ -31,8 +37,8 @@ def bad_years_whole(report):
 
 # The version that brought a change of reports, and how a report of before becomes one of that version.
 CHANGES = (((2, 0), bad_years_whole),)
-# The first version whose vectors have plans (#103).
-PLANS = 2, 2
+# The first version whose vectors have plans (#103), and the first that refuses two equal records of a year (#105).
+PLANS, EQUAL_REFUSED = (2, 2), (3, 0)
 
 
 def due_now(version, words, numbers):
@@ -43,6 +49,12 @@ def due_now(version, words, numbers):
     return " ".join(map(str, (*words, *numbers)))
 
 
+def is_equal_now(version, dossier, plan):
+    """#105: whether two equal records of a year or of a planned one, which an earlier version let pass, are the first fault now."""
+    held = version < EQUAL_REFUSED and (has_equal_records(dossier) or has_equal_records(plan))
+    return held and reckoner.reckon(dossier, bytearray(1312), plan)[0] == 14
+
+
 def ask_vectors(version, data, lines):
     """What the program vectors reads now, and the lines due."""
     asked, due = [], []
@@ -50,14 +62,40 @@ def ask_vectors(version, data, lines):
         number, *words = map(int, line[len(label):].split())
         size = 8 * dossier[5] + 4 if number == 0 else 0  # dossier[5] is HD's n
         asked.append(vectors.stored(label, dossier, plan, room))
-        due.append(" ".join(map(str, (due_now(version, (label, number), words[:size]), *words[size:]))))
+        if is_equal_now(version, dossier, plan):
+            due.append(f"{label} 14")
+        else:
+            due.append(" ".join(map(str, (due_now(version, (label, number), words[:size]), *words[size:]))))
     return b"".join(asked), due
+
+
+def by_opening(calls):
+    """The calls of each opening up to the next; those before the first opening are the first."""
+    found = [[]]
+    for call in calls:
+        if call[0] == b"O":
+            found.append([])
+        found[-1].append(call)
+    return found
+
+
+def due_calls(version, calls, lines):
+    """The lines due of an opening's calls: those of then, save the years that two equal records refuse now; after one of them that was
+    accepted then, the independent ledger's."""
+    ledger, parted = reckoner.Ledger(), False
+    equal = version < EQUAL_REFUSED and any(has_equal_records(data) or has_equal_records(plan) for _, data, _, plan in calls)
+    for call, line in zip(calls, lines):
+        now = answer(ledger, *call) if equal else ""
+        parted = parted or (line, now) == ("year 0", "year 14")
+        word, number, *numbers = line.split()
+        yield now if parted or now == "year 14" else due_now(version, (word, number), list(map(int, numbers)))
 
 
 def ask_calls(version, data, lines):
     """The calls are asked as they were; and the lines due."""
-    answers = (line.split() for line in lines)
-    return data, [due_now(version, (word, number), list(map(int, numbers))) for word, number, *numbers in answers]
+    left = iter(lines)
+    due = [line for calls in by_opening(calls_in(data)) for line in due_calls(version, calls, [*itertools.islice(left, len(calls))])]
+    return data, due
 
 
 def written(program, data):

@@ -45,7 +45,7 @@ int LLVMFuzzerTestOneInput(const uint8_t *data, size_t size)
         result[k] = plain[k] = without[k] = old[k] = (uint8_t)(k * 167 + size);
     uint32_t number = kh_am004_reckon_plan(in.dossier, in.dossier_len, in.plan, in.plan_len, result, room);
     uint32_t due = plain_reckon(in.dossier, in.dossier_len, in.plan, in.plan_len, plain, room);
-    if (number > KH_AM004_REFUSED_PLANNED || number != due || memcmp(result, plain, room + 1) || !kept(number, result, old, room))
+    if (number > KH_AM004_REFUSED_REPEATED || number != due || memcmp(result, plain, room + 1) || !kept(number, result, old, room))
         abort();
     memcpy(plain, old, room + 1);
     number = kh_am004_reckon(in.dossier, in.dossier_len, without, room);

@@ -2,6 +2,7 @@
 
 A dossier is a list of records, a record its mark and its fields; a plan is another such list.
 """
+import itertools
 import struct
 
 from reckoner import CLASSES, STOCK, Cursor, days_of, read_activities, reckon, up
@@ -113,7 +114,9 @@ def long(rng):
 
 
 def greatest(rng):
-    return dict(option=2, first=2200, n=20, project=LIMIT, belt=LIMIT, activities=60, cells=1, amount=max, filed=True)
+    """Amounts as great as they can be, now and then one or two less, for there are not sixty different records of the greatest alone."""
+    return dict(option=2, first=2200, n=20, project=LIMIT, belt=LIMIT, activities=60, cells=1,
+                amount=lambda amounts: max(amounts[1] - rng.choice((0, 0, 0, 1, 2)), 0), filed=True)
 
 
 def forest(rng):
@@ -150,6 +153,16 @@ def activity(rng, amount=None, mark=None):
     return mark, fields
 
 
+def run_of(rng, count, amount=None, others=()):
+    """So many records in range, no two of them equal (#105), and none equal to one of the others."""
+    run = []
+    while len(run) < count:
+        record = activity(rng, amount)
+        if record not in run and record not in others:
+            run.append(record)
+    return run
+
+
 def stocks(rng, amount=None):
     """A list for ST, of any stocks, with 0, the greatest and the built-in ones among them; now and then the built-in list."""
     if amount is None and rng.random() < 0.1:
@@ -183,8 +196,7 @@ def made(rng, n, project, belt, activities, option=None, first=None, cells=None,
     records = opening(option or rng.randint(1, 2), first, n, *regions, rows, listed)
     for number in range(first, first + n):
         days = days_of(number) if amount and not lost else rng.choice((1, days_of(number), rng.randint(1, 365)))
-        run = [activity(rng, amount) for _ in range(activities)]
-        records += year(number, days, *map(tables, regions), *run)
+        records += year(number, days, *map(tables, regions), *run_of(rng, activities, amount))
     return records + [END]
 
 
@@ -198,14 +210,24 @@ def grams(run):
     return sum(map(up, read_activities(Cursor(encode(run)))))
 
 
+def lime_of(most):
+    """Different records of limestone that emit so many grams together: the first as much as one can, each later one a gram less at least."""
+    lime, each = [], grams([("LI", [1, LIMIT])])
+    while most > 0:
+        part = min(most, each - len(lime))
+        lime.append(limestone(part))
+        most -= part
+    return lime
+
+
 def planned_run(rng, most):
-    """Records that emit at most so many grams, half of the time just that."""
-    run = [activity(rng, lambda amounts: rng.randint(0, min(amounts[1], 10))) for _ in range(rng.choice((0, 1, 5, 59)))]
+    """Different records that emit at most so many grams, half of the time just that."""
+    run = run_of(rng, rng.choice((0, 1, 5, 59)), lambda amounts: rng.randint(0, min(amounts[1], 10)))
     while run and grams(run) > most:
         run = run[:len(run) // 2]
-    wholes, rest = divmod(max(most, 0) - grams(run), grams([("LI", [1, LIMIT])]))
-    lime = [("LI", [1, LIMIT])] * wholes + [limestone(rest)]
-    return run + lime if rng.random() < 0.5 and len(run + lime) <= 60 else run
+    lime = lime_of(most - grams(run))
+    fits = len(run + lime) <= 60 and not any(record in run for record in lime)
+    return run + lime if rng.random() < 0.5 and fits else run
 
 
 def any_plan(rng, listed, numbers):
@@ -213,7 +235,7 @@ def any_plan(rng, listed, numbers):
     others = [*numbers, 0, 65535, *(rng.randrange(65536) for _ in range(3))]
     for number in rng.sample(others, rng.choice((0, 2, len(others)))):
         if len(listed) < MOST_PLANNED:
-            listed.setdefault(number, [activity(rng) for _ in range(rng.choice((0, 1, 60)))])
+            listed.setdefault(number, run_of(rng, rng.choice((0, 1, 60))))
     return plan(*sorted(listed.items()))
 
 
@@ -237,6 +259,21 @@ def other_plan(rng, listed):
     k = rng.randrange(len(starts)) if starts else 0
     less = listed[:starts[k]] + listed[[*starts, -1][k + 1]:] if starts else [END]
     return rng.choice((spoiled(rng, listed, rng.choice(ways(listed))), encode(less), b"EN", b""))
+
+
+# Different records that a filter takes for equal ones
+
+def slot(kind, count, average, rate):
+    """The slot of a VE among the 1,024 of the filter by which the proved reckoner looks for equal records (#105)."""
+    key = (((rate * 2**20 + average) * 2**10 + count) * 4 + kind) * 4 + 1
+    return (key % 2**32 + key // 2**32) * 1640531527 // 2**22 % 1024
+
+
+def of_one_slot(count):
+    """So many VE, no two of them equal, that all have the same slot."""
+    fields = ([1, n, average, 100000] for n in range(1000, 0, -1) for average in range(10000, 0, -1))
+    found = (("VE", given) for given in fields if slot(*given) == slot(1, 1000, 10000, 100000))
+    return list(itertools.islice(found, count))
 
 
 # Ways to spoil the records
@@ -345,7 +382,7 @@ def other_years(rng, records):
 def crowded(rng, records):
     """A year of 61 activity records or more."""
     k = pick(rng, records, ["CD", "PY"])
-    return records[:k + 1] + [activity(rng) for _ in range(61)] + records[k + 1:]
+    return records[:k + 1] + run_of(rng, 61, others=records) + records[k + 1:]
 
 
 # Ways to spoil the bytes
@@ -375,7 +412,7 @@ def stops(rng, records, mark):
 
 def cut_crowd(rng, records):
     """A 61st activity record of which little more than the mark is there."""
-    crowd = records[:pick(rng, records, ["CD", "PY"]) + 1] + [activity(rng) for _ in range(61)]
+    crowd = records[:pick(rng, records, ["CD", "PY"]) + 1] + run_of(rng, 61)
     return encode(crowd)[:places(crowd)[-2] + rng.randint(1, 9)]
 
 
@@ -401,7 +438,7 @@ def other_mark(rng, records):
 
 def two_faults(rng, records):
     once = rng.choice([way for way in ways(records) if way in RECORD_WAYS])(rng, records)
-    return spoiled(rng, once, rng.choice(ways(once))) if once else b""
+    return in_way(rng, once, rng.choice(ways(once))) if once else b""
 
 
 RECORD_WAYS = {off_by_one: WITH_FIELDS, wrapped: SUMS, head_edge: ["HD"], stock_edge: ["ST"], year_edge: ["YR"], activity_edge: GREATEST,
@@ -418,8 +455,15 @@ def ways(records):
     return [way for way, needs in (RECORD_WAYS | BYTE_WAYS).items() if marks.intersection(needs)]
 
 
-def spoiled(rng, records, way):
+def in_way(rng, records, way):
     return encode(way(rng, records)) if way in RECORD_WAYS else way(rng, records)
+
+
+def spoiled(rng, records, way):
+    """The bytes of the records spoilt in this way, and no year of them has two equal records (#105)."""
+    while has_equal_records(data := in_way(rng, records, way)):
+        pass
+    return data
 
 
 # Where bytes end
@@ -432,6 +476,19 @@ def boundaries(data):
         if at > len(data):
             return
         yield at, mark
+
+
+def has_equal_records(data):
+    """Whether two activity records of a year or of a planned one are equal in mark and all fields (#105)."""
+    run, start = set(), 0
+    for end, mark in boundaries(data):
+        record, start = data[start:end], end
+        if mark in ("YR", "PY"):
+            run.clear()
+        if mark in GREATEST and record in run:
+            return True
+        run.add(record)
+    return False
 
 
 def ending(data):

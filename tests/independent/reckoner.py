@@ -86,13 +86,14 @@ def option_one():
 
 
 def activity(cursor):
-    """The exact grams of one record."""
+    """One record, its mark with its fields, and its exact grams."""
     mark = cursor.data[cursor.at:cursor.at + 2]
     values = cursor.record(mark, ACTIVITY_FIELDS[mark])
+    record = mark, *values
     if mark == b"NI":
         source, crop, grams, content = values
         require(1 <= source <= 3 and 1 <= crop <= 2 and grams <= 10**10 and content <= 10000, 8)
-        return Fraction(grams * content * NITROGEN[source, crop] * 3278, 7000000000)
+        return record, Fraction(grams * content * NITROGEN[source, crop] * 3278, 7000000000)
     kind = values[0]
     grams = values[1]
     if mark == b"VE":
@@ -100,20 +101,23 @@ def activity(cursor):
         require(count <= 1000 and average <= 1000000 and each <= 100000, 8)
         grams = count * average * each
     require(1 <= kind <= 3 and grams <= 10**12, 8)
-    return Fraction(grams * LIMING[kind], 300) if mark == b"LI" else Fraction(grams * FUEL[kind], 100000)
+    return record, Fraction(grams * LIMING[kind], 300) if mark == b"LI" else Fraction(grams * FUEL[kind], 100000)
 
 
 def read_activities(cursor):
-    """The exact grams of each record of a year or of a planned one."""
-    records = []
+    """The exact grams of each record of a year or of a planned one. One that equals an earlier one in mark and all fields is 14 (#105)."""
+    records = {}
     while cursor.sees(ACTIVITY_FIELDS):
         require(len(records) < 60, 9)
-        records.append(activity(cursor))
-    return records
+        record, grams = activity(cursor)
+        require(record not in records, 14)
+        records[record] = grams
+    return list(records.values())
 
 
 def read_plan(plan):
-    """Each planned year with its records (#103). Zero bytes are no plan; one that is not of the form is 12, whatever its fault."""
+    """Each planned year with its records (#103). Zero bytes are no plan; one that is not of the form is 12, whatever its fault, save that
+    two equal records of a planned year are 14 (#105)."""
     cursor, years = Cursor(plan), {}
     try:
         while cursor.sees((b"PY",)):
@@ -123,8 +127,8 @@ def read_plan(plan):
         if plan:
             cursor.record(b"EN", ())
             require(cursor.left() == 0, 12)
-    except Refused:
-        raise Refused(12) from None
+    except Refused as refused:
+        raise Refused(14 if refused.number == 14 else 12) from None
     return years
 
 

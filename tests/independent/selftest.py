@@ -74,7 +74,8 @@ def test_stocks():
 def test_planned_records():
     """Of a planned year the plan's records count in the bound, of any other year the dossier's."""
     head, (due,) = pieces(case_a())
-    listed = encode(plan((2019, [limestone(1)] * 60), (2020, [limestone(1)] * 3), (2021, [limestone(1)] * 7)))
+    limes = [limestone(grams) for grams in range(1, 61)]
+    listed = encode(plan((2019, limes), (2020, limes[:3]), (2021, limes[:7])))
     for piece, records, bound in ((due[:3] + [PLANNED], 3, "130794.48"), (due, 1, "130792.48"), (due[:3], 0, "130791.48")):
         ledger, which = reckoner.Ledger(), f"of {records} records taken beside a plan"
         expect(ledger.open(encode(head)) == 0 and ledger.year(encode(piece), listed) == 0, True, f"a year {which} is given")

@@ -9,6 +9,7 @@
 A vector is a label, a dossier, a plan and the length of a buffer filled with 165. Each states here its number, and the figures that tell.
 """
 import ctypes
+import itertools
 import pathlib
 import struct
 import sys
@@ -18,7 +19,7 @@ from typing import NamedTuple
 import reckoner
 from compare import closing, lent, reckoning_call, trace
 from dossiers import (END, FIELDS, GREATEST, LIMIT, MOST_PLANNED, MOST_STOCK, PLANNED, areas, boundaries, case_a, changed, encode, limestone,
-                      matrix, opening, pieces, places, plan, stays, table, year)
+                      matrix, of_one_slot, opening, pieces, places, plan, stays, table, year)
 
 ROOT = pathlib.Path(__file__).resolve().parents[2]
 FIGURES = "reference project activity belt belt_reference displaced reduction credited total tonnes balance belt_balance".split()
@@ -62,6 +63,19 @@ def base(option=1, n=1, run=RUN):
         belt = table(("E", "B", 3000 + y), ("E", "NF", 2000), ("E", "E", 45000 - y), ("FR", "FR", 30000), ("NF", "NF", 20000))
         records += year(2019 + y, 300 + y, project, belt, *run)
     return records + [END]
+
+
+def different(count, run):
+    """So many records, no two of them equal (#105): these in turn, each time with one more in the last field."""
+    turns = [(*run[k % len(run)], k // len(run)) for k in range(count)]
+    return [(mark, [*fields[:-1], fields[-1] + more]) for mark, fields, more in turns]
+
+
+def vehicles(grams):
+    """Sixty VE on diesel that use so much each, no two of them equal: the product of their factors is the same."""
+    counts, rates = ([n for n in range(1, top + 1) if grams % n == 0] for top in (GREATEST["VE"][1], GREATEST["VE"][3]))
+    factors = ((n, grams // (n * rate), rate) for n in counts for rate in rates if grams % (n * rate) == 0)
+    return [("VE", [1, *given]) for given in factors if given[1] <= GREATEST["VE"][2]][:60]
 
 
 def planning(records, *numbers):
@@ -155,12 +169,12 @@ def edges():
 
 
 def longest():
-    """As many records as there can be, and amounts as great as they can be."""
+    """As many records as there can be, all different, and amounts as great as they can be."""
     turned = matrix(("SE", "NF", 1000000), ("NF", "SE", 1000000))
     records = opening(2, 2200, 20, areas(SE=LIMIT), areas(SE=LIMIT), turned, areas(SE=MOST_STOCK))
-    for y in range(20):
+    for y, run in enumerate([vehicles(LIMIT)] * 20):
         lost = table(("SE", "NF", LIMIT - y), ("SE", "SE", y))
-        records += year(2200 + y, reckoner.days_of(2200 + y), lost, lost, *[("VE", [1, 1000, 10000, 100000])] * 60)
+        records += year(2200 + y, reckoner.days_of(2200 + y), lost, lost, *run)
     require(len(encode(records + [END])) == 65088, "the longest dossier has not 65,088 bytes")
     return accepted("n 20, the longest dossier", records + [END])
 
@@ -362,16 +376,16 @@ def kinds():
 
 
 def sixty():
-    full = emitting(*[RUN[k % 4] for k in range(60)])
+    full, (after,) = emitting(*different(60, RUN)), different(61, RUN)[60:]
     yield accepted("60 records", full)
-    yield refused(9, "61 records", full[:-1] + [RUN[0], END])
+    yield refused(9, "61 records", full[:-1] + [after, END])
     yield refused(9, "61st record with a fault", full[:-1] + [("LI", [0, 0]), END])
     for mark in GREATEST:
         yield refused(9, f"61st mark {mark} alone", encode(full[:-1]) + mark.encode())
     yield refused(1, "one byte after 60 records", encode(full[:-1]) + b"F")
-    two = base(n=2, run=[RUN[3]] * 60)
+    two, after = base(n=2, run=different(60, RUN[3:])), different(61, RUN[3:])[60:]
     yield accepted("60 records in each of two years", two)
-    yield refused(9, "61 records in the second year", two[:-1] + [RUN[3]])
+    yield refused(9, "61 records in the second year", two[:-1] + after)
 
 
 def endings():
@@ -400,14 +414,14 @@ def orders():
     yield refused(6, "wrong days, then wrong CP total", put(put(run, "YR", {1: 0}), "CP", {0: 0})[:5])
     yield refused(7, "wrong CP total, then wrong CD total", put(put(run, "CP", {0: 0}), "CD", {0: 0})[:6])
     yield refused(7, "wrong CD total, then wrong FU field", put(put(run, "CD", {0: 0}), "FU", {0: 0}))
-    full = emitting(*[RUN[0]] * 60)[:-1]
-    yield refused(8, "wrong field in the 60th record, then a 61st", put(full, "FU", {0: 4}, 59) + [RUN[0]])
+    full, after = emitting(*different(60, RUN[:1]))[:-1], different(61, RUN[:1])[60:]
+    yield refused(8, "wrong field in the 60th record, then a 61st", put(full, "FU", {0: 4}, 59) + after)
     two = base(n=2, run=RUN[:1])
     yield refused(8, "wrong field in the first year, then wrong year", put(put(two, "FU", {0: 0}), "YR", {0: 2019}, 1)[:8])
     yield refused(6, "a year more than n, then wrong CP total", put(put(two, "HD", {2: 1}), "CP", {0: 0}, 1)[:9])
     for number, data in {1: encode(run)[:-1], 2: encode(run) + b"\0", 3: put(run, "HD", {2: 0})[:1], 4: put(run, "PA", {0: LIMIT})[:2],
                          5: put(one, "MP", {0: 1})[:4], 6: put(run, "YR", {1: 0})[:4], 7: put(run, "CD", {0: 0})[:6],
-                         8: put(run, "LI", {0: 0}), 9: full + RUN[:1], 11: put(filed, "ST", {11: 1})[:2]}.items():
+                         8: put(run, "LI", {0: 0}), 9: full + after, 11: put(filed, "ST", {11: 1})[:2]}.items():
         yield refused(number, f"{number} comes before 10", data, room=0)
 
 
@@ -443,7 +457,7 @@ def slips():
 
 def roundings():
     """Where a rounding elsewhere comes to another figure."""
-    yield accepted("each activity rounded by itself", emitting(("LI", [1, 1]), ("LI", [1, 1]), ("FU", [1, 1])), activity=6)
+    yield accepted("each activity rounded by itself", emitting(("LI", [1, 1]), ("LI", [2, 1]), ("FU", [1, 1])), activity=6)
     lost = table(("MR", "E", 1), ("FR", "FF", 1))  # 4.03 and 10.23 g
     yield accepted("project rounded once", one_year(2, areas(MR=1, FR=1), areas(), lost, table()), project=15)
     one = areas(MR=1)
@@ -478,7 +492,8 @@ def bad_years():
     yield accepted("a bad year last", reduced(5, -10), credited=-10, total=-6, tonnes=0)
     yield accepted("a bad year takes a tonne", reduced(10**7, -1), credited=-1, total=7999999, tonnes=7)
     pair, turned = areas(MR=2), matrix(("MR", "E", 1000000))  # reference 121/15 g
-    for reduction, unrounded, run in ((-1, 0, [("LI", [3, 11])]), (-2, Fraction(44, 15), [("LI", [1, 1])] * 10),
+    limes = [("LI", [*fields]) for fields in ((1, 1), (1, 2), (1, 3), (2, 1), (2, 3), (3, 1), (3, 2))]  # 506/75 g, each rounded up 10 g
+    for reduction, unrounded, run in ((-1, 0, [("LI", [3, 11])]), (-2, Fraction(132, 125), limes),
                                       (-4, Fraction(-253, 75), [("LI", [3, 15]), ("LI", [1, 1])]), (0, Fraction(44, 75), [("LI", [3, 10])])):
         records = one_year(2, pair, areas(), stays(pair), table(), *run, probabilities=turned)
         yield accepted(f"reduction {reduction}, unrounded total {unrounded}", records, reduction=reduction, credited=reduction, unrounded=unrounded)
@@ -622,7 +637,7 @@ def stock_amounts():
 def plan_forms():
     """Plans of the form: the year is found by its number, what else there is leaves it alone, and without PL nothing is used."""
     one, own, due, other = base(run=[PLANNED]), base(run=LITTLE), (2019, LITTLE), [("FU", [1, LIMIT])]
-    sixty = [("VE", [1, 10, 10, 1])] * 60
+    sixty = vehicles(120)
     for name, years in {"its year": [due], "the year before too": [(2018, other), due], "the year after too": [due, (2020, other)],
                         "both years beside it": [(2018, other), due, (2020, other)], "years 0 and 65,535": [(0, other), due, (65535, other)],
                         "255, 256 and 257": [(255, []), (256, []), (257, []), due], "2047 and 2048": [due, (2047, other), (2048, [])],
@@ -633,19 +648,19 @@ def plan_forms():
         yield accepted(f"a plan of {name}, without PL", own, plan=plan(*years), activity=21579)
     for mark, record in zip(GREATEST, LITTLE):
         yield accepted(f"a plan of {mark} alone", one, plan=plan((2019, [record])))
-    for name, lent_plan in (("no plan", b""), ("EN alone", b"EN"), ("other records", plan((2019, other * 60)))):
+    for name, lent_plan in (("no plan", b""), ("EN alone", b"EN"), ("other records", plan((2019, vehicles(LIMIT))))):
         yield accepted(f"{name} and a dossier without PL", own, plan=lent_plan, activity=21579)
     yield accepted("a planned year without records", one, plan=plan((2019, [])), activity=0)
-    yield accepted("60 records in a planned year", one, plan=plan((2019, sixty)), activity=60 * 319)
+    yield accepted("60 records in a planned year", one, plan=plan((2019, sixty)), activity=60 * 383)
     for first, place in ((2019, "first"), (2010, "tenth"), (2000, "last")):
         longest_plan = plan(*((first + k, sixty) for k in range(MOST_PLANNED)))
         require(len(encode(longest_plan)) == 18082, "the longest plan has not 18,082 bytes")
-        yield accepted(f"the longest plan, its year the {place}", one, plan=longest_plan, activity=60 * 319)
+        yield accepted(f"the longest plan, its year the {place}", one, plan=longest_plan, activity=60 * 383)
 
 
 def plan_faults():
     """Years and records of which each alone would do, but not all together."""
-    one, due, many = base(run=[PLANNED]), (2019, LITTLE), [("LI", [1, 0])] * 61
+    one, due, many = base(run=[PLANNED]), (2019, LITTLE), different(61, [("LI", [1, 0])])
     for name, years in {"21 years, its year the first": [due, *((2020 + k, []) for k in range(20))],
                         "21 years, its year the last": [*((1999 + k, []) for k in range(20)), due],
                         "22 years": [due, *((2020 + k, []) for k in range(21))], "its year twice": [due, due],
@@ -674,7 +689,7 @@ def plan_records():
         wrong = changed([(mark, GREATEST[mark])], 0, {f: -1})
         for name, years in (("last in its year", [(2019, LITTLE + wrong)]), ("first in its year", [(2019, wrong + LITTLE)]),
                             ("in the year before", [(2018, wrong), (2019, LITTLE)]), ("in the year after", [(2019, LITTLE), (2020, wrong)]),
-                            ("60th in its year", [(2019, [("LI", [1, 0])] * 59 + wrong)])):
+                            ("60th in its year", [(2019, different(59, [("LI", [1, 0])]) + wrong)])):
             yield refused(12, f"a wrong {mark} {name}", one, plan=plan(*years))
 
 
@@ -709,7 +724,7 @@ def plan_marks():
 def plan_first():
     """The plan is judged before the dossier and the buffer, whether or not it is used; a sound one leaves the dossier's number."""
     one, run, filed = base(2), base(), filing(NEWER, base(2))
-    sixty_one = emitting(*[RUN[0]] * 61)
+    sixty_one = emitting(*different(61, RUN[:1]))
     dossiers = {1: encode(run)[:-1], 2: encode(run) + b"\0", 3: put(run, "HD", {2: 0}), 4: put(run, "PA", {0: LIMIT}), 5: put(one, "MP", {0: 1}),
                 6: put(run, "YR", {1: 0}), 7: put(run, "CD", {0: 0}), 8: put(run, "LI", {0: 0}), 9: sixty_one, 11: put(filed, "ST", {11: 1}),
                 13: base(run=[PLANNED])}
@@ -748,7 +763,7 @@ def planned_places():
     k = index(two, "YR", 1)
     yield refused(2, "PL before the second YR", two[:k] + [PLANNED] + two[k:], plan=listed)
     yield refused(2, "pl after CD", before(run, "FU") + b"pl", plan=listed)
-    yield refused(2, "PL after 60 records, whole dossier", emitting(*RUN[:1] * 60, PLANNED), plan=listed)
+    yield refused(2, "PL after 60 records, whole dossier", emitting(*different(60, RUN[:1]), PLANNED), plan=listed)
 
 
 def planned_ends():
@@ -806,7 +821,7 @@ def planned_orders():
             yield refused(number, f"{name}, after {what}", put(one, mark, cells), plan=lent_plan)
         yield refused(2, f"{name}, after a sound FU", one[:-2] + [LITTLE[0], PLANNED, END], plan=lent_plan)
         yield refused(8, f"{name}, after a wrong FU", one[:-2] + [("FU", [0, 0]), PLANNED, END], plan=lent_plan)
-        yield refused(9, f"{name}, after 61 records", one[:-2] + LITTLE[:1] * 61 + [PLANNED, END], plan=lent_plan)
+        yield refused(9, f"{name}, after 61 records", one[:-2] + different(61, LITTLE[:1]) + [PLANNED, END], plan=lent_plan)
         yield refused(6, f"{name}, in a year more than n", put(planning(base(n=2), 2020)[0], "HD", {2: 1}), plan=lent_plan)
     yield refused(10, "planned years and a buffer of 159", two, 159, plan=plan((2019, LITTLE), (2020, LITTLE)))
     yield accepted("planned years and a buffer of 168", two, 168, plan=plan((2019, LITTLE), (2020, LITTLE)))
@@ -857,7 +872,7 @@ def planned_grams():
     for name, records in (("nothing lost", emitted(0)), ("only a belt foreseen", emitted(0, 30000, False)), ("no forest", emitting(PLANNED))):
         for what, run in (("no activity", []), ("zero quantities", [("FU", [3, 0]), ("LI", [2, 0])]), ("activity 1", [limestone(1)])):
             yield refused(13, f"{name}, {what}", records, plan=plan((2019, run)))
-    thrice = plan((2019, [("LI", [1, 1])] * 3))  # 0.44 g each
+    thrice = plan((2019, [("LI", [1, 1]), ("LI", [1, 2]), ("LI", [2, 1])]))  # 0.44 g, 0.88 g and 0.48 g
     yield accepted("project 58, three records of a gram each", emitted(1581), plan=thrice, project=58, activity=3)
     yield refused(13, "project 57, three records of a gram each", emitted(1554), plan=thrice)
     pair = table(("D", "D", 1), ("MR", "M", 1))  # the belt loses 30.25 g, its reference is 20.39 g
@@ -887,7 +902,8 @@ def planned_years():
         yield refused(13, f"two planned years, much in the {name}", two, plan=plan(*zip((2019, 2020), runs)))
     yield accepted("each planned year by its own number", base(n=3, run=[PLANNED]), activity=1,
                    plan=plan((2018, RUN), (2019, LITTLE), (2020, []), (2021, [limestone(1)]), (2022, RUN)))
-    yield accepted("own records, more of them in the plan", base(n=2, run=LITTLE), plan=plan((2019, RUN), (2020, RUN * 15)), activity=21579)
+    yield accepted("own records, more of them in the plan", base(n=2, run=LITTLE), plan=plan((2019, RUN), (2020, different(60, RUN))),
+                   activity=21579)
     leap = planning(years_of(1, 2099, 3, PROJECT, BELT, (table(("E", "NF", sum(PROJECT))), stays(BELT)), run=LITTLE), 2099, 2101)
     yield accepted("PL in 2099 and 2101", leap[0], plan=leap[1])
 
@@ -895,11 +911,11 @@ def planned_years():
 def planned_amounts():
     """Twenty planned years of sixty records, and the greatest amounts."""
     for option in (1, 2):
-        records, listed = planning(base(option, 20, [("VE", [1, 10, 10, 1])] * 60))
-        yield accepted(f"20 planned years of 60 records, Option {option}", records, plan=listed, activity=60 * 319)
+        records, listed = planning(base(option, 20, vehicles(120)))
+        yield accepted(f"20 planned years of 60 records, Option {option}", records, plan=listed, activity=60 * 383)
     mixed, listed = planning(base(1, 20, LITTLE), *range(2020, 2039, 2))
     yield accepted("20 years, every other one planned", mixed, plan=listed, activity=21579)
-    vast, gone, most = areas(SE=LIMIT), table(("SE", "NF", LIMIT)), [("VE", [1, 1000, 10000, 100000])] * 60
+    vast, gone, most = areas(SE=LIMIT), table(("SE", "NF", LIMIT)), vehicles(LIMIT)
     records, listed = planning(filing(areas(SE=MOST_STOCK), years_of(2, 2200, 20, vast, vast, (gone, gone), run=most)))
     yield accepted("20 planned years of the greatest amounts", records, plan=listed, project=1833333333333334, displaced=1833333333333334,
                    activity=191178000000000)
@@ -943,7 +959,7 @@ def calendar():
 def last_marks():
     """Another mark, and nothing after it, at the places that are left."""
     one, two, run = base(), base(n=2), [*GREATEST, "YR", "EN"]
-    full = emitting(*[RUN[k % 4] for k in range(60)])
+    full = emitting(*different(60, RUN))
     spots = [("after HD, Option 2", before(base(2), "PA"), ["PA", "ST"]), ("after PA, Option 2", before(base(2), "DA"), ["DA"])]
     spots += [(f"after {mark}", before(one, after), run) for mark, after in (("FU", "VE"), ("VE", "NI"), ("NI", "LI"), ("LI", "EN"))]
     spots += [("after 60 records", encode(full[:-1]), run), ("after the first of two years", before(two, "YR", 1), run[:-1]),
@@ -960,6 +976,137 @@ def full_buffers():
     yield accepted("buffer 1312 of 1312", twenty)
     for room in (1280, 1311):
         yield refused(10, f"buffer {room} of 1312", twenty, room)
+
+
+# Equal records (#105)
+
+def equal_records():
+    """Two records of a year that are equal in mark and all fields: 14, whatever follows them."""
+    for record in RUN:
+        mark, others = record[0], [other for other in RUN if other != record]
+        yield refused(14, f"{mark} twice", emitting(record, record))
+        yield refused(14, f"{mark} twice, and no byte more", emitting(record, record)[:-1])
+        yield refused(14, f"{mark} twice, others between", emitting(record, *others, record))
+        yield refused(14, f"{mark} twice, of zero quantities", emitting(*[(mark, least(mark))] * 2))
+        yield refused(14, f"{mark} twice, of the greatest quantities", emitting(*singly(mark)[-1:] * 2))
+    run = different(60, RUN)
+    yield refused(14, "three equal records", emitting(*RUN[:1] * 3))
+    yield refused(14, "two pairs", emitting(*RUN[:2] * 2))
+    yield refused(14, "sixty equal records", emitting(*RUN[:1] * 60))
+    for name, again in (("first", run[:1]), ("30th", run[29:30]), ("59th", run[58:59])):
+        yield refused(14, f"the {name} record again as the 60th", emitting(*run[:59], *again))
+    yield refused(14, "the 59th record of one slot equal to the first", emitting(*of_one_slot(58), *of_one_slot(1)))
+    yield refused(14, "the 60th record of one slot equal to the first", emitting(*of_one_slot(59), *of_one_slot(1)))
+    yield refused(14, "the 60th record of one slot equal to the 59th", emitting(*of_one_slot(59), *of_one_slot(59)[58:]))
+    yield refused(14, "a pair in the second year", base(n=2)[:-1] + [RUN[3], END])
+    yield refused(14, "a pair in the first of two years", base(n=2, run=RUN + RUN[3:]))
+    yield refused(14, "a pair under Option 2 by filed stocks", filing(NEWER, base(2, run=RUN + RUN[:1])))
+
+
+def powers(mark):
+    """Records with one field at a power of two, or at the greatest, the others at their least; no two of them equal."""
+    low = least(mark)
+    found = [(mark, low)]
+    for f, top in enumerate(GREATEST[mark]):
+        found += [(mark, [*low[:f], value, *low[f + 1:]]) for value in (*(2**k for k in range(top.bit_length())), top) if value <= top]
+    return [record for k, record in enumerate(found) if record not in found[:k]]
+
+
+def nearly_equal():
+    """Records that are not equal, or not of one year: accepted."""
+    for mark, given in RUN:
+        for f, (name, top) in enumerate(zip(FIELD_NAMES[mark], GREATEST[mark])):
+            other = [*given[:f], given[f] % top + 1, *given[f + 1:]]
+            yield accepted(f"{mark} twice but for its {name}", emitting((mark, given), (mark, other)))
+        yield accepted(f"{mark} with a power of two in one field or another", emitting(*powers(mark)))
+    alike = [(mark, [1, amount]) for mark in ("FU", "LI") for amount in (0, 1, 2, 7, LIMIT)]
+    yield accepted("FU and LI with the same fields", emitting(*alike), activity=4 + 7 + 23 + 3186300000000 + 1 + 1 + 4 + 440000000000)
+    alike += [("VE", [1, count, 0, 0]) for count in (0, 1, 2, 7)] + [("NI", [1, crop, 0, 0]) for crop in (1, 2)]
+    yield accepted("records of each mark with the same first fields", emitting(*alike))
+    factors = [("VE", [1, *given]) for given in itertools.permutations((2, 3, 4))] + [("VE", [1, 24, 1, 1]), ("VE", [1, 1, 1, 24])]
+    yield accepted("VE with other factors and the same product", emitting(*factors), activity=8 * 77)
+    yield accepted("VE with the greatest product by sixty factors", emitting(*vehicles(LIMIT)), activity=60 * 3186300000000)
+    yield accepted("sixty records of one slot", emitting(*of_one_slot(60)))
+    yield accepted("sixty records that differ by a gram", emitting(*different(60, [("FU", [1, 0])])))
+    yield accepted("the same records in each of three years", base(2, 3))
+    yield accepted("a year's last record is the next one's first", base(n=2, run=RUN[:1]))
+    for name, records, years in (("two planned years", base(n=2, run=[PLANNED]), [(2019, LITTLE), (2020, LITTLE)]),
+                                 ("a planned year and one that is not used", base(run=[PLANNED]), [(2019, LITTLE), (2020, LITTLE)]),
+                                 ("the plan and the dossier's own year", base(run=LITTLE), [(2019, LITTLE)]),
+                                 ("a planned year and the next one's own", planning(base(n=2, run=LITTLE), 2019)[0], [(2019, LITTLE)])):
+        yield accepted(f"the same records in {name}", records, plan=plan(*years), activity=21579)
+    yield accepted("sixty records of one slot in a plan", base(run=LITTLE), plan=plan((2019, of_one_slot(60)), (2020, of_one_slot(60))))
+
+
+def equal_orders():
+    """14 comes after the later record's mark, 9, missing bytes and fields, and before what stands after that record."""
+    for name, wrong in out_of_range():
+        yield refused(8, f"{name} after the same in range", emitting((wrong[0], least(wrong[0])), wrong))
+        yield refused(8, f"{name} twice", emitting(wrong, wrong))
+    run, pair, faulty = different(60, RUN), [RUN[0], RUN[0]], ("VE", [4, 0, 0, 0])
+    yield refused(14, "a pair, then a wrong field", emitting(*pair, faulty))
+    yield refused(8, "a wrong field, then a pair", emitting(faulty, *pair))
+    yield refused(8, "a record, a wrong field, and the record again", emitting(RUN[0], faulty, RUN[0]))
+    for record in RUN:
+        data, (start, end) = encode(emitting(record, record)), places(emitting(record, record))[-3:-1]
+        for length in (1, 2, 3, end - start - 1):
+            yield refused(1, f"{record[0]} again, {length} of its {end - start} bytes", data[:start + length])
+    yield refused(9, "the first record again as the 61st", emitting(*run, run[0]))
+    yield refused(9, "the 60th record again as the 61st", emitting(*run, run[59]))
+    yield refused(14, "a pair among sixty, then a 61st", emitting(*run[:59], *run[:2]))
+    for name, more in (("another mark", b"??"), ("HD", b"HD"), ("CD", b"CD"), ("PL", b"PL"), ("a byte", b"F"), ("a mark and no more", b"LI"),
+                       ("EN and a byte", b"EN\0")):
+        yield refused(14, f"a pair, then {name}", encode(emitting(*pair)[:-1]) + more)
+    yield refused(2, "a record, another mark, and the record again", encode(emitting(RUN[0])[:-1]) + b"CD" + encode(RUN[:1]))
+    two = base(n=2, run=pair)
+    yield refused(14, "a pair, then a wrong year", put(two, "YR", {1: 0}, 1))
+    yield refused(14, "a pair, then a second year that is missing", put(base(run=pair), "HD", {2: 2}))
+    for number, mark, cells in ((3, "HD", {0: 3}), (4, "PA", {0: LIMIT}), (6, "YR", {1: 0}), (7, "CP", {0: 0}), (7, "CD", {0: 0})):
+        yield refused(number, f"a wrong {mark}, then a pair", put(two, mark, cells))
+    yield refused(6, "a pair in a year more than n", put(base(n=2)[:-1] + [RUN[3], END], "HD", {2: 1}))
+    for room in (0, 95):
+        yield refused(14, f"a pair, and a buffer of {room}", emitting(*pair), room)
+
+
+def equal_planned():
+    """Two equal records of a planned year, used or not: 14, in the order of the plan's faults, of which every other one is 12."""
+    one, own, pair, sixty = base(run=[PLANNED]), base(run=LITTLE), LITTLE[:1] * 2, different(60, LITTLE)
+    wrong, full = ("FU", [0, 0]), [(2019 + k, []) for k in range(MOST_PLANNED)]
+    for record in LITTLE:
+        yield refused(14, f"{record[0]} twice in a plan", one, plan=plan((2019, [record] * 2)))
+    for name, years in {"a pair in its year": [(2019, pair)], "a pair in the year before": [(2018, pair), (2019, LITTLE)],
+                        "a pair in the year after": [(2019, LITTLE), (2020, pair)], "a pair in the 20th year": [*full[:-1], (2038, pair)],
+                        "the first record again as the 60th": [(2019, sixty[:59] + sixty[:1])],
+                        "the 60th record of one slot equal to the first": [(2018, of_one_slot(59) + of_one_slot(1))],
+                        "a pair, then a wrong field": [(2019, [*pair, wrong])],
+                        "a pair, then a wrong field in the next year": [(2019, pair), (2020, [wrong])],
+                        "a pair, then a year that is not later": [(2019, pair), (2019, [])],
+                        "a pair, then a 61st record": [(2019, sixty[:59] + sixty[:2])], "a pair, then a 21st year": [(2018, pair), *full]}.items():
+        yield refused(14, f"a plan of {name}", one, plan=plan(*years))
+        yield refused(14, f"a plan of {name}, without PL", own, plan=plan(*years))
+    for name, years in {"a wrong field, then a pair": [(2019, [wrong, *pair])],
+                        "a wrong field, then a pair in the next year": [(2018, [wrong]), (2019, pair)],
+                        "a wrong record twice": [(2019, [wrong] * 2)], "a pair in a year that is not later": [(2019, LITTLE), (2018, pair)],
+                        "a pair in its year again": [(2019, []), (2019, pair)], "a pair in a 21st year": [*full, (2039, pair)],
+                        "the first record again as the 61st": [(2019, sixty + sixty[:1])],
+                        "its year twice with the same records": [(2019, LITTLE)] * 2}.items():
+        yield refused(12, f"a plan of {name}", one, plan=plan(*years))
+    data = encode(plan((2019, pair)))
+    for number, name, lent_plan in ((14, "and no byte more", data[:-2]), (14, "then E alone", data[:-1]), (14, "then CD", data[:-2] + b"CD"),
+                                    (14, "then a byte after EN", data + b"\0"), (12, "of which the last byte is missing", data[:-3]),
+                                    (12, "of which only the mark is there", data[:17]), (12, "before the first PY", encode(pair) + data)):
+        yield refused(number, f"a plan with a pair, {name}", one, plan=lent_plan)
+    for name, dossier in (("no bytes", b""), ("n 0", put(own, "HD", {2: 0})), ("a wrong field", put(own, "FU", {0: 0})), ("a pair", emitting(*pair)),
+                          ("61 records", emitting(*different(61, RUN))), ("a byte after EN", encode(own) + b"\0"),
+                          ("PL in a year that the plan lacks", base(n=2, run=[PLANNED]))):
+        yield refused(14, f"a plan with a pair, and a dossier of {name}", dossier, plan=data)
+    for room in (0, 95):
+        yield refused(14, f"a plan with a pair, and a buffer of {room}", own, room, plan=data)
+    for number, name, lent_plan in ((12, "a plan cut", b"E"), (14, "a sound plan", b"EN"), (14, "a plan of its year", plan((2019, LITTLE)))):
+        yield refused(number, f"a pair in the dossier, and {name}", emitting(*pair), plan=lent_plan)
+    yield refused(14, "a pair, then PL by its plan", emitting(*pair, PLANNED), plan=plan((2019, LITTLE)))
+    yield refused(2, "PL by its plan, then a pair", one[:-1] + pair, plan=plan((2019, LITTLE)))
+    yield refused(13, "PL without a plan, then a pair", one[:-1] + pair)
 
 
 # The calls on a ledger, each with its number
@@ -1011,12 +1158,12 @@ def three_years():
     head, dues = pieces(base(2, 3))
     yield opens(0, head)
     for y, due in enumerate(dues):
-        sound, tables, sixty = encode(due), due[:3], due[:3] + RUN[:1] * 60
+        sound, tables, sixty = encode(due), due[:3], due[:3] + different(60, RUN[:1])
         yield from (gives(1, sound[:-1]), gives(1, sound + b"L"), gives(1, encode(tables) + b"Y"), closes(0, 64 * y + 32))
         yield from (gives(2, sound + b"EN"), gives(2, before(due, "CD") + b"FU"), gives(2, encode(tables) + b"YR"), closes(0, 64 * y + 32))
         yield from (gives(6, dues[y - 1]), gives(6, put(due, "YR", {1: 0})), closes(0, 64 * y + 32))
         yield from (gives(7, put(due, "CP", {0: 0})), gives(7, put(due, "CD", {5: 2**63, 6: 2**63})), closes(0, 64 * y + 32))
-        yield from (gives(8, put(due, "VE", {1: 1001})), gives(9, sixty + RUN[:1]), gives(9, encode(sixty) + b"NI"))
+        yield from (gives(8, put(due, "VE", {1: 1001})), gives(9, due[:3] + different(61, RUN[:1])), gives(9, encode(sixty) + b"NI"))
         yield gives(0, (sound, tables, sixty)[y])
         yield from (closes(0, 64 * y + 96), closes(10, 64 * y + 95), closes(0, 64 * y + 200))
     yield from (gives(6, year(2022, 365, stays(PROJECT), stays(BELT))), gives(6, dues[0]), gives(2, b"FU"))
@@ -1080,7 +1227,7 @@ def planned_pieces():
         yield from (gives(2, piece + encode(LITTLE)), gives(2, encode(due) + b"PL"), gives(2, encode(tables[:2]) + b"PL"), gives(2, b"PL"))
         yield from (gives(2, encode(tables) + b"pl"), gives(2, due[:1] + [PLANNED] + due[1:]), closes(0, 64 * y + 32))
         yield from (gives(7, put(tables, "CD", {0: 0}) + [PLANNED]), gives(6, put(tables, "YR", {1: 0}) + [PLANNED]))
-        yield from (gives(9, tables + LITTLE[:1] * 61 + [PLANNED]), gives(8, tables + [("FU", [0, 0]), PLANNED]), closes(0, 64 * y + 32))
+        yield from (gives(9, tables + different(61, LITTLE[:1]) + [PLANNED]), gives(8, tables + [("FU", [0, 0]), PLANNED]), closes(0, 64 * y + 32))
         yield from (gives(0, piece), closes(0, 64 * y + 96), closes(10, 64 * y + 95))
     yield from (gives(6, encode(dues[2][:3] + [PLANNED])), lends(b""))
 
@@ -1099,6 +1246,26 @@ def changing_plans():
     yield from (gives(6, dues[2]), lends(plan((2019, LITTLE), (2020, []))), opens(0, head), gives(0, dues[0]), opens(1, head[:2]), gives(6, dues[0]))
     yield from (opens(0, head), gives(0, dues[0]), gives(0, dues[1]), gives(13, dues[2]), closes(0, 160))
     yield from (opens(0, head), lends(plan((2019, LITTLE))), lends(plan((2019, RUN))), gives(13, dues[0]), lends(b""), closes(0, 32))
+
+
+# Equal records of a ledger's years (#105)
+
+def equal_pieces():
+    """A year piece with a pair is refused 14 and leaves the ledger; without one of the two, by a plan, or with their sum it is accepted. A
+    plan with a pair is 14 whatever the piece."""
+    head, dues = pieces(base(2, 3, LITTLE))
+    yield from (opens(0, head), lends(b""))
+    for y, due in enumerate(dues):
+        pair, by_plan, room = due + due[3:4], due[:3] + [PLANNED], 64 * y + 32
+        mended = (due, by_plan, put(due, "FU", {1: 2 * fields(due, "FU")[1]}))[y]
+        yield from (gives(14, pair), closes(0, room), gives(14, encode(pair) + b"?"), gives(14, encode(pair) + b"EN"), gives(14, pair + [PLANNED]))
+        yield from (gives(1, encode(pair)[:-1]), gives(8, due + [("FU", [0, 0])] * 2), gives(9, due[:3] + different(60, LITTLE) + due[3:4]))
+        yield from (gives(7, put(pair, "CD", {0: 0})), gives(6, put(pair, "YR", {1: 0})), closes(0, room))
+        for wrong in (plan((2019 + y, LITTLE), (2030, LITTLE + LITTLE[3:])), plan((2019 + y, LITTLE + LITTLE[:1]))):
+            yield from (lends(wrong), gives(14, by_plan), gives(14, due), gives(14, pair), gives(14, b""), closes(0, room), closes(10, room - 1))
+        yield from (lends(plan((2019 + y, LITTLE), (2030, LITTLE))), gives(14, pair), gives(0, mended), closes(0, room + 64), closes(10, room + 63))
+    yield from (gives(6, dues[2] + dues[2][3:4]), lends(plan((0, LITTLE[:1] * 2))), gives(14, dues[2]), opens(0, head), gives(14, dues[0]))
+    yield from (lends(b""), gives(0, dues[0]), closes(0, 96), opens(1, head[:2]), gives(6, dues[0] + dues[0][3:4]), closes(0, 32))
 
 
 # The calls that every vector's dossier makes
@@ -1123,7 +1290,8 @@ def paths():
             step = (piece, lent_plan) if taken else (piece, None)
             number = ledger.year(*step) if taken else ledger.open(piece)
             if number:
-                require(number == due or due == 12 and not taken, f"{label}: a piece of it is answered {number} where {due} is due")
+                require(number == due or due in (12, 14) and lent_plan and not taken,
+                        f"{label}: a piece of it is answered {number} where {due} is due")
                 yield taken, (number, step)
                 break
             taken.append(step)
@@ -1195,9 +1363,9 @@ VECTORS = (examples, edges, cuts, marks, heads, totals, rows, years, conversions
            slips, roundings, bad_years, every_class, projections, stock_limits, stock_cuts, stock_places, stock_lists, stock_orders,
            stock_amounts, plan_forms, plan_faults, plan_records, plan_cuts, plan_marks, plan_first, planned_places, planned_ends,
            planned_lacking, planned_orders, planned_shares, planned_grams, planned_years, planned_amounts, record_ends, calendar, last_marks,
-           full_buffers)
+           full_buffers, equal_records, nearly_equal, equal_orders, equal_planned)
 CALLS = (empty_ledger, refused_openings, case_a_ledger, three_years, opened_again, filed_ledgers, bad_plans, planned_pieces, changing_plans,
-         every_dossier, second_years)
+         equal_pieces, every_dossier, second_years)
 
 
 def require(holds, what):

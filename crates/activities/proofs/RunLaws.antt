@@ -1,34 +1,36 @@
--- The run of activity records: where the loop stands, what one more record changes, and what each way out of the loop answers.
+-- The run of activity records: where the loop stands, what one more record changes, and what each way out of the loop says.
 -- Assumes nothing.
 use Prim.Native.Nat.{ℕ, _+_, _-_, _≤_, _<_}
 use mathlib.Core.Path.{_≡_, refl, _∙_, sym}
-use mathlib.Core.Bool.{Bool, true, false}
+use mathlib.Core.Bool.{Bool, true, false, cond}
 use mathlib.Core.List.{List, [], _∷_, _++_}
 use native.Mathlib.Nat.{add-assoc}
 use native.Mathlib.Omega.{arith}
 use borrow.Author.Needs.{sfits-of}
 use borrow.Author.Tests.{lt-ltb, not-true, not-false}
 use lib.IntN.{pos, _+ℤ_}
-use lib.Signed.{mag}
-use lib.ListN.{length, drop, length-append, length-drop}
+use lib.ListN.{length, take, drop, set, length-drop}
 use lib.Seq.{drop-drop}
 use mir.Syntax.{w64}
 use mir.Val.{SFits}
 use Rattle.classes.specs.declared.Grams.{Grams}
-use Rattle.classes.specs.Ranges.{greatestActivity}
 use Rattle.activity.specs.declared.Activity.{Activity}
-use Rattle.activity.specs.Activity.{ActivityInRange, ActivitiesInRange, activityGrams, activityEmissions}
+use Rattle.activity.specs.Activity.{ActivityInRange, activityGrams, activityEmissions}
+use Rattle.activity.specs.Key.{key}
 use Rattle.activity.proofs.ActivityLaws.{grams-le, emissions-le}
 use Rattle.wire.specs.Bytes.{fieldAt}
-use Rattle.dossier.specs.Reader.{refused, accepted, _>>=_, give, stands, upon}
+use Rattle.pairs.specs.Pairs.{someEqual}
+use Rattle.dossier.specs.Reader.{refused, _>>=_, stands, upon}
 use Rattle.dossier.specs.JudgingRecords.{activityMark, activityUnder, activity}
 use Rattle.dossier.specs.Judging.{activities}
-use Rattle.dossier.proofs.RunLaws.{activities-are, activities-step, activities-over}
+use Rattle.dossier.proofs.RunLaws.{activities-are, activities-one, activities-over}
 use Rattle.dossier.proofs.Refusals.{sixty-first}
 use Rattle.dossier.proofs.ActivityLaws.{activity-is, under-range}
-use Rattle.dossier.proofs.ReaderLaws.{bind-no, bind-yes, stands-short, stands-here}
-use Rattle.activities.specs.Answers.{activitySays, activityInside, summedActivities}
+use Rattle.dossier.proofs.ReaderLaws.{stands-short, stands-here}
+use Rattle.activities.specs.Answers.{activitySays, activityInside, Keyed, RecordsSaid}
 use Rattle.activities.specs.declared.ActivityAnswer.{ActivityAnswer}
+use Rattle.activities.specs.declared.RunAnswer.{RunAnswer}
+use Rattle.activities.proofs.KeyedLaws.{keyed-more, judged-more}
 
 -- ---- a list of records with one more at its end
 emissions-more : (l : List Activity) (a : Activity) → activityEmissions (l ++ (a ∷ [])) ≡ activityEmissions l + activityGrams a
@@ -36,40 +38,38 @@ unfolding activityEmissions
 emissions-more [] a = omega arith
 emissions-more (b ∷ l) a = rw (emissions-more l a, add-assoc)
 
-in-range-more : (l : List Activity) (a : Activity) → ActivitiesInRange l → ActivityInRange a → ActivitiesInRange (l ++ (a ∷ []))
-in-range-more [] a h k = (k, tt)
-in-range-more (b ∷ l) a h k = (h .0, in-range-more l a (h .1) k)
-
--- ---- the records before `at`: in range, summed and counted; the run goes on at `at` after them
-pub record SoFar (s : List ℕ) (at : ℕ) (grams : Grams) (count : ℕ) : Type 0 where
+-- ---- the records before `at`, in range, keyed and summed; the run goes on at `at` after them, unless two are equal
+pub record SoFar (s keys : List ℕ) (at : ℕ) (grams : Grams) (count : ℕ) : Type 0 where
   pub records : List Activity
-  pub inRange : ActivitiesInRange records
+  pub keyed : Keyed records keys count
   pub summed : grams .0 ≡ pos (activityEmissions records)
-  pub counted : length records ≡ count
-  pub few : count ≤ 60
   pub inside : at ≤ length s
-  pub goesOn : activities [] s ≡ activities records (drop at s)
+  pub goesOn : activities [] s ≡ cond (someEqual (take count keys)) (refused 14) (activities records (drop at s))
 
-pub none-yet : (s : List ℕ) → SoFar s 0 (record { 0 = pos 0 }) 0
-unfolding activityEmissions
-none-yet s = record { records = []; inRange = tt; summed = refl; counted = refl; few = omega arith; inside = omega arith; goesOn = refl }
+pub none-yet : (s keys : List ℕ) → length keys ≡ 60 → SoFar s keys 0 (record { 0 = pos 0 }) 0
+unfolding activityEmissions someEqual
+none-yet s keys e = record {
+  records = [];
+  keyed = record { room = e; few = omega arith; counted = refl; inRange = tt; told = refl };
+  summed = refl;
+  inside = omega arith;
+  goesOn = refl;
+}
 
-module _ {s : List ℕ} {at : ℕ} {grams : Grams} {count : ℕ} (l : SoFar s at grams count) where
-  pub small-sum : mag (grams .0) ≤ greatestActivity
-  small-sum = rw (l .summed) (omega (arith, emissions-le (l .records) (l .inRange), l .counted, l .few))
+module _ {s keys : List ℕ} {at : ℕ} {grams : Grams} {count : ℕ} (l : SoFar s keys at grams count) where
+  over : stands activityMark (drop at s) ≡ false → RecordsSaid s keys (record { count = count; answer = RunAnswer.Read grams at })
+  over f = record {
+    records = l .records;
+    keyed = l .keyed;
+    summed = (l .summed, l .inside);
+    judged = l .goesOn ∙ rw (activities-over (l .records) (drop at s) f);
+  }
 
-  over : stands activityMark (drop at s) ≡ false → accepted grams (drop at s) ≡ summedActivities s
-  unfolding summedActivities upon give
-  over f =
-      (λ i. accepted (record { 0 = l .summed i }) (drop at s))
-      ∙ bind-yes (activities []) _ s (l .records) (drop at s) (sym (l .goesOn ∙ activities-over (l .records) (drop at s) f))
-
-  stopped : {n : ℕ} → activities (l .records) (drop at s) ≡ refused n → refused n ≡ summedActivities s
-  unfolding summedActivities
-  stopped e = bind-no (activities []) _ s _ (sym (l .goesOn ∙ e))
+  stopped : {n : ℕ} → activities (l .records) (drop at s) ≡ refused n → RecordsSaid s keys (record { count = count; answer = RunAnswer.Refused n })
+  stopped e = record { records = l .records; keyed = l .keyed; summed = tt; judged = l .goesOn ∙ rw e }
 
   -- no mark stands at `at`
-  pub ended : length s - at < 2 → accepted grams (drop at s) ≡ summedActivities s
+  pub ended : length s - at < 2 → RecordsSaid s keys (record { count = count; answer = RunAnswer.Read grams at })
   ended h = over (stands-short activityMark (drop at s) (rw length-drop h))
 
   -- the mark m does; b says whether it is that of an activity record
@@ -81,24 +81,24 @@ module _ {s : List ℕ} {at : ℕ} {grams : Grams} {count : ℕ} (l : SoFar s at
     unfolding fieldAt
     due-is = stands-here activityMark (drop at s) two ∙ rw (← e) (sym h)
 
-    pub other : b ≡ false → accepted grams (drop at s) ≡ summedActivities s
+    pub other : b ≡ false → RecordsSaid s keys (record { count = count; answer = RunAnswer.Read grams at })
     other f = over (due-is ∙ f)
 
     module _ (t : b ≡ true) where
       -- the 61st record
-      pub full : count ≡ 60 → refused 9 ≡ summedActivities s
-      full k = stopped (sixty-first (l .records) (drop at s) (omega (arith, l .counted)) (due-is ∙ t))
+      pub full : count ≡ 60 → RecordsSaid s keys (record { count = count; answer = RunAnswer.Refused 9 })
+      full k = stopped (sixty-first (l .records) (drop at s) (omega (arith, l .keyed .counted)) (due-is ∙ t))
 
       module _ (less : count ≡ 60 → ⊥) (r : ActivityAnswer) (says : activitySays s r ≡ activityUnder m (drop (at + 2) s)) where
         room : length (l .records) < 60
-        room = omega (arith, l .few, l .counted)
+        room = omega (arith, l .keyed .few, l .keyed .counted)
 
         activity-says : activity (drop at s) ≡ activitySays s r
         unfolding fieldAt
         activity-says = rw (activity-is (drop at s) two, ← e, drop-drop) (sym says)
 
         -- a record that is refused
-        pub faulty : (n : ℕ) → r ≡ ActivityAnswer.Refused n → refused n ≡ summedActivities s
+        pub faulty : (n : ℕ) → r ≡ ActivityAnswer.Refused n → RecordsSaid s keys (record { count = count; answer = RunAnswer.Refused n })
         unfolding upon _>>=_
         faulty n q =
             let a : activity (drop at s) ≡ refused n = rw q at activity-says in
@@ -111,19 +111,18 @@ module _ {s : List ℕ} {at : ℕ} {grams : Grams} {count : ℕ} (l : SoFar s at
 
           module _ (g : Grams) (p : g .0 ≡ pos (activityGrams a)) where
             pub sum-fits : SFits w64 (grams .0 +ℤ g .0)
-            sum-fits = rw (l .summed, p) (sfits-of (omega (arith, emissions-le (l .records) (l .inRange), grams-le a read-range, room)))
+            sum-fits = rw (l .summed, p) (sfits-of (omega (arith, emissions-le (l .records) (l .keyed .inRange), grams-le a read-range, room)))
 
-            pub one-more : activityInside s r → (sum : Grams) → sum .0 ≡ grams .0 +ℤ g .0 → SoFar s next sum (count + 1)
-            one-more i sum k =
-                let x : activity (drop at s) ≡ accepted a (drop next s) = rw q at activity-says in
+            pub one-more : activityInside s r → (k : ℕ) → k ≡ key a → (sum : Grams) → sum .0 ≡ grams .0 +ℤ g .0 → SoFar s (set keys count k) next sum (count + 1)
+            one-more i k e sum d =
                 record {
                   records = l .records ++ (a ∷ []);
-                  inRange = in-range-more (l .records) a (l .inRange) read-range;
-                  summed = k ∙ rw (l .summed, p, emissions-more);
-                  counted = simp length-append (omega (arith, l .counted));
-                  few = omega (arith, room, l .counted);
+                  keyed = keyed-more (l .keyed) less a read-range k e;
+                  summed = d ∙ rw (l .summed, p, emissions-more);
                   inside = rw q at i;
-                  goesOn = l .goesOn ∙ activities-step (l .records) (drop at s) room (due-is ∙ t) x;
+                  goesOn =
+                      l .goesOn
+                      ∙ judged-more (l .keyed) less a read-range k e _ _ (activities-one (l .records) (drop at s) room (due-is ∙ t) (rw q at activity-says));
                 }
 
-pub ruleset running = (not-true, not-false, ended, other, full, faulty, read-range, sum-fits, one-more, small-sum)
+pub ruleset running = (not-true, not-false, ended, other, full, faulty, read-range, sum-fits, one-more)

@@ -1,17 +1,23 @@
 -- What the answers say: document 01's number, or what was read and the bytes left.
 -- Serves contracts of inner functions and proofs; nothing here has to be believed. Assumes nothing.
 use Prim.Native.Nat.{ℕ, _≤_}
-use mathlib.Core.List.{List, []}
+use mathlib.Core.Path.{_≡_}
+use mathlib.Core.Bool.{cond}
+use mathlib.Core.List.{List, [], map}
 use lib.IntN.{pos}
 use lib.Signed.{mag}
-use lib.ListN.{length, drop}
+use lib.ListN.{length, take, drop}
 use Rattle.classes.specs.declared.Grams.{Grams}
 use Rattle.classes.specs.Ranges.{greatestActivity}
 use Rattle.activity.specs.declared.Activity.{Activity}
-use Rattle.activity.specs.Activity.{activityEmissions}
+use Rattle.activity.specs.Activity.{ActivitiesInRange, activityEmissions}
+use Rattle.activity.specs.Key.{key}
+use Rattle.pairs.specs.Pairs.{someEqual}
+use Rattle.dossier.specs.Causes.{recordRepeated}
 use Rattle.dossier.specs.Reader.{Judged, refused, accepted, Reader, _>>=_, give}
 use Rattle.dossier.specs.Judging.{activities}
 use Rattle.activities.specs.declared.ActivityAnswer.{ActivityAnswer}
+use Rattle.activities.specs.declared.Records.{Records}
 use Rattle.activities.specs.declared.RunAnswer.{RunAnswer}
 
 -- ---- one activity record
@@ -23,7 +29,33 @@ abbrev pub activityInside : List ℕ → ActivityAnswer → Type 0
 activityInside s (ActivityAnswer.Read activity next) = next ≤ length s
 activityInside s (ActivityAnswer.Refused n) = Unit {0}
 
--- ---- a year's records: the sum of their emissions
+-- ---- a year's records, with their keys
+-- the first keys are those of these records, count of them
+pub record Keyed (records : List Activity) (keys : List ℕ) (count : ℕ) : Type 0 where
+  pub room : length keys ≡ 60
+  pub few : count ≤ 60
+  pub counted : length records ≡ count
+  pub inRange : ActivitiesInRange records
+  pub told : take count keys ≡ map key records
+
+-- what stopped the reading of these records
+abbrev pub stoppedBy : (s : List ℕ) → List Activity → RunAnswer → Judged (List Activity)
+stoppedBy s records (RunAnswer.Read grams next) = accepted records (drop next s)
+stoppedBy s records (RunAnswer.Refused n) = refused n
+
+-- the sum of their emissions, and the place after them, where none was refused
+abbrev pub Summed : (s : List ℕ) → List Activity → RunAnswer → Type 0
+Summed s records (RunAnswer.Read grams next) = (grams .0 ≡ pos (activityEmissions records)) × (next ≤ length s)
+Summed s records (RunAnswer.Refused n) = Unit {0}
+
+-- a year's records are judged 14 where two keys are equal, otherwise as what stopped the reading says
+pub record RecordsSaid (s keys : List ℕ) (r : Records) : Type 0 where
+  pub records : List Activity
+  pub keyed : Keyed records keys (r .count)
+  pub summed : Summed s records (r .answer)
+  pub judged : activities [] s ≡ cond (someEqual (take (r .count) keys)) (refused recordRepeated) (stoppedBy s records (r .answer))
+
+-- ---- the sum of their emissions
 unfoldable pub summedActivities : Reader Grams
 summedActivities = do
   records ← activities []

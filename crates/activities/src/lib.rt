@@ -1,4 +1,4 @@
-// A year's activity records: FU, VE, NI and LI, each with its emissions, up to 60 of them.
+// A year's activity records: FU, VE, NI and LI, each with its emissions, up to 60 of them, no two equal.
 use activity::Activity;
 use classes::Grams;
 ghost use mathlib.Core.Path.{_≡_};
@@ -9,7 +9,7 @@ ghost use lib.ListN.{length, drop};
 ghost use Rattle.dossier.specs.Marks.{FU as markFU};
 ghost use Rattle.dossier.specs.Layouts.{fuel, vehicles, nitrogen, lime};
 ghost use Rattle.dossier.specs.JudgingRecords.{fieldsOf, activityMark, activityUnder};
-ghost use Rattle.activities.specs.Answers.{activitySays, activityInside, summedActivities, runSays, runInside};
+ghost use Rattle.activities.specs.Answers.{activitySays, activityInside, RecordsSaid, summedActivities, runSays, runInside};
 
 const FU: u64 = 0x4655;
 
@@ -27,6 +27,12 @@ enum ActivityAnswer {
 pub enum RunAnswer {
     Read { grams: Grams, next: usize },
     Refused(u8),
+}
+
+// How many records were read, and what stopped the reading.
+struct Records {
+    count: usize,
+    answer: RunAnswer,
 }
 
 // FU or LI, by its mark m, from its fields on: both have a kind or material from 1 to 3 and grams up to 10^12.
@@ -174,32 +180,58 @@ fn read_activity(s: &[u8], at: usize, m: u64) -> ActivityAnswer
     ActivityAnswer::Refused(2)
 }
 
-// The run of activity records at the start of a part: the sum of their emissions.
-pub fn read_run(part: &[u8]) -> RunAnswer
-    ensures { λ r. ⌜ runSays (now (part .entry)) r ≡ summedActivities (now (part .entry)) ⌝ }
-    ensures { λ r. ⌜ runInside (now (part .entry)) r ⌝ }
+// The activity records at the start of a part, with the key of each: equal ones are not refused here.
+fn read_records(part: &[u8], keys: &mut [u64; 60]) -> Records
+    requires { ⌜ length (now keys) ≡ 60 ⌝ }
+    ensures { λ r. ⌜ RecordsSaid (now (part .entry)) (now (keys .exit)) r ⌝ }
 {
     let mut at: usize = 0;
     let mut grams = Grams(0);
-    let mut count: u64 = 0;
+    let mut count: usize = 0;
     while part.len() - at >= 2 {
         let m = wire::field16(part, at);
         if !is_activity(m) {
-            return RunAnswer::Read { grams, next: at };
+            return Records {
+                count,
+                answer: RunAnswer::Read { grams, next: at },
+            };
         }
         if count == 60 {
-            return RunAnswer::Refused(9);
+            return Records {
+                count,
+                answer: RunAnswer::Refused(9),
+            };
         }
         match read_activity(part, at + 2, m) {
             ActivityAnswer::Read { activity, next } => {
+                keys[count] = activity::key(activity);
                 grams = grams.plus(activity::emissions(activity));
                 at = next;
             }
             ActivityAnswer::Refused(n) => {
-                return RunAnswer::Refused(n);
+                return Records {
+                    count,
+                    answer: RunAnswer::Refused(n),
+                };
             }
         }
-        count = count + 1;
+        count += 1;
     }
-    RunAnswer::Read { grams, next: at }
+    Records {
+        count,
+        answer: RunAnswer::Read { grams, next: at },
+    }
+}
+
+// The run of activity records at the start of a part: the sum of their emissions. Two that are equal come before what stopped the reading.
+pub fn read_run(part: &[u8]) -> RunAnswer
+    ensures { λ r. ⌜ runSays (now (part .entry)) r ≡ summedActivities (now (part .entry)) ⌝ }
+    ensures { λ r. ⌜ runInside (now (part .entry)) r ⌝ }
+{
+    let mut keys: [u64; 60] = [0; 60];
+    let records = read_records(part, &mut keys);
+    if pairs::any_equal(&keys, records.count) {
+        return RunAnswer::Refused(14);
+    }
+    records.answer
 }

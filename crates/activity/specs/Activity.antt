@@ -2,8 +2,9 @@
 -- The rounded and the unrounded reckoning share both.
 -- To be believed. Assumes nothing.
 use Prim.Native.Nat.{ℕ, _+_, _-_, _*_, _≤_}
+use mathlib.Core.Path.{_≡_}
 use mathlib.Core.List.{List, [], _∷_}
-use lib.ListN.{getD}
+use lib.ListN.{length, getD}
 use Rattle.arithmetic.specs.Rounding.{ceilDiv}
 use Rattle.activity.specs.declared.Activity.{Activity}
 use Rattle.activity.specs.declared.Activity.the-variants.{Fuel, Vehicles, Nitrogen, Lime}
@@ -52,6 +53,21 @@ ActivityInRange a = InRanges (ranges a)
 abbrev pub ActivitiesInRange : List Activity → Type 0
 ActivitiesInRange [] = Unit {0}
 ActivitiesInRange (a ∷ rest) = ActivityInRange a × ActivitiesInRange rest
+
+-- #105, "two activity records are equal": a record is none of these, and no two of a list are
+abbrev pub NoneOf : List Activity → Activity → Type 0
+NoneOf [] a = Unit {0}
+NoneOf (b ∷ rest) a = (a ≡ b → ⊥) × NoneOf rest a
+
+abbrev pub AllDifferent : List Activity → Type 0
+AllDifferent [] = Unit {0}
+AllDifferent (a ∷ rest) = NoneOf rest a × AllDifferent rest
+
+-- the activity records of a year, its own or those of a plan: "0 to 60", each in range, no two equal
+pub record RunInRange (records : List Activity) : Type 0 where
+  pub count : length records ≤ 60
+  pub each : ActivitiesInRange records
+  pub different : AllDifferent records
 
 -- ---- grams
 -- the first, second or third of three, for 1, 2 and 3

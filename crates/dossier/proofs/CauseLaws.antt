@@ -5,6 +5,7 @@ use mathlib.Core.Path.{_≡_, refl}
 use mathlib.Core.Bool.{Bool, true, false, cond}
 use mathlib.Core.Logic.{inl, inr}
 use mathlib.Core.List.{List, [], _∷_, _++_}
+use borrow.Author.Tests.{eq-eqb}
 use lib.Dec.{T, eqb, eqb→eq, ltb, ltb→lt}
 use Rattle.dossier.specs.Causes.{planNotOfForm, causes, openingCauses, yearCauses, _∈_}
 
@@ -46,12 +47,12 @@ allPositive l = each (λ n. ltb 0 n) l
 pub positive : (l : List ℕ) → T (allPositive l) → (n : ℕ) → n ∈ l → 0 < n
 positive l t n h = ltb→lt 0 n (passes (λ n. ltb 0 n) l t n h)
 
--- ---- no cause but the plan's has the number 12
-abbrev pub noneOfPlan : List ℕ → Bool
-noneOfPlan l = each (λ n. cond (eqb n planNotOfForm) false true) l
+-- ---- a list without the number n
+abbrev pub without : ℕ → List ℕ → Bool
+without n l = each (λ m. cond (eqb m n) false true) l
 
-pub not-of-plan : (l : List ℕ) → T (noneOfPlan l) → planNotOfForm ∈ l → ⊥
-not-of-plan l t h = passes (λ n. cond (eqb n planNotOfForm) false true) l t planNotOfForm h
+pub not-listed : (n : ℕ) (l : List ℕ) → T (without n l) → n ∈ l → ⊥
+not-listed n l t h = rw (eq-eqb n n refl) at (passes (λ m. cond (eqb m n) false true) l t n h)
 
 -- ---- the causes of a dossier: those of its opening and of its years, which are all of the table but the plan's and the buffer's
 abbrev pub dossierCauses : List ℕ

@@ -4,18 +4,21 @@ use Prim.Native.Nat.{ℕ}
 use mathlib.Core.Path.{_≡_, refl}
 use mathlib.Core.Bool.{Bool, true, false, cond}
 use mathlib.Core.Option.{Option}
-use mathlib.Core.List.{List}
+use mathlib.Core.List.{List, [], _∷_}
 use lib.Dec.{ltb, eqb}
 use lib.ListN.{length, take, drop}
 use Rattle.wire.specs.Bytes.{number}
-use Rattle.dossier.specs.Causes.{bytesMissing, markNotDue, openingCauses, yearCauses, _∈_}
+use Rattle.dossier.specs.Causes.{bytesMissing, markNotDue, activityOutOfRange, openingCauses, yearCauses, _∈_}
+use Rattle.dossier.specs.Marks.{EN}
 use Rattle.dossier.specs.Plan.{Plan}
 use Rattle.dossier.specs.Records.{Due}
-use Rattle.dossier.specs.Reader.{Judged, refused, accepted, Reader, after, _>>=_, _>>_, give, refuse, mark, stands, upon, present, field, fields, nothing, endOfPiece}
+use Rattle.dossier.specs.Reader.{Judged, refused, accepted, Reader, after, _>>=_, _>>_, give, refuse, mark, stands, upon, present, begin, field, fields, nothing, endOfPiece}
+use Rattle.dossier.specs.JudgingRecords.{activity}
 use Rattle.dossier.specs.Judging.{dossier, openingPiece, yearPiece}
+use Rattle.dossier.specs.JudgingPlan.{planEnd}
 use Rattle.dossier.proofs.ReaderLaws.{never}
 use Rattle.dossier.proofs.CauseLaws.{listed, dossierCauses, opening-part, year-part}
-use Rattle.dossier.proofs.Walk.{Closed, openings, a-year, some-years}
+use Rattle.dossier.proofs.Walk.{Closed, openings, an-activity as one-activity, a-year, some-years}
 
 -- what a reader refuses, it refuses for one of these causes
 abbrev pub Numbered : List ℕ → {A : Type 0} → Reader A → Type 0
@@ -105,6 +108,18 @@ module _ (allowed : List ℕ) (missing : bytesMissing ∈ allowed) (due : markNo
     nothing = nothings;
   }
 
+  -- ---- one activity record, any other's beginning, and the end of a plan
+  an-activity : activityOutOfRange ∈ allowed → Numbered allowed activity
+  an-activity range = one-activity (λ n. n ∈ allowed) AlwaysNumbered numbered due range
+
+  begins : (m k : ℕ) → Numbered allowed (begin m k)
+  unfolding begin
+  begins m k = seq (marks m) (presents k)
+
+  plan-ends : (years : Plan) → Numbered allowed (planEnd years)
+  unfolding planEnd
+  plan-ends years = seq (marks EN) (seq nothings (given years))
+
   -- ---- the whole, and the pieces, where their own causes are among these
   piece : {A : Type 0} {r : Reader A} → Numbered allowed r → Numbered allowed (r >>= λ a. endOfPiece >> give a)
   piece x = bind x (λ a. seq piece-ends (given a))
@@ -122,6 +137,18 @@ module _ (allowed : List ℕ) (missing : bytesMissing ∈ allowed) (due : markNo
   whole own own′ plan =
       bind (openings (λ n. n ∈ allowed) AlwaysNumbered numbered own)
       (λ o. bind (some-years (λ n. n ∈ allowed) AlwaysNumbered numbered own′ _ _ _) (λ l. given _))
+
+abbrev pub recordCauses : List ℕ
+recordCauses = bytesMissing ∷ markNotDue ∷ activityOutOfRange ∷ []
+
+pub activity-causes : Numbered recordCauses activity
+activity-causes = an-activity recordCauses (listed bytesMissing recordCauses tt) (listed markNotDue recordCauses tt) (listed activityOutOfRange recordCauses tt)
+
+pub begin-causes : (m k : ℕ) → Numbered recordCauses (begin m k)
+begin-causes = begins recordCauses (listed bytesMissing recordCauses tt) (listed markNotDue recordCauses tt)
+
+pub planEnd-causes : (years : Plan) → Numbered recordCauses (planEnd years)
+planEnd-causes = plan-ends recordCauses (listed bytesMissing recordCauses tt) (listed markNotDue recordCauses tt)
 
 pub openingPiece-causes : Numbered openingCauses openingPiece
 openingPiece-causes = opening-piece openingCauses (listed bytesMissing openingCauses tt) (listed markNotDue openingCauses tt) (λ n h. h)

@@ -17,11 +17,11 @@ use Rattle.figures.specs.declared.Figures.{Figures}
 use Rattle.figures.specs.Figures.{displacedEmissions, reductionOf, creditedOf, figuresOf, smallActivity}
 use Rattle.wire.specs.Bytes.{number, bytes, numbers, bytesOfEach, joined, total}
 use Rattle.dossier.specs.Marks.{HD, PL}
-use Rattle.dossier.specs.Layouts.{activityBytes}
+use Rattle.dossier.specs.Layouts.{activityBytes, same, fresh}
 use Rattle.dossier.specs.Plan.{planYearBytes, planBytes}
 use Rattle.dossier.specs.Records.{stocksBytes, matrixBytes}
 use Rattle.dossier.specs.Claims.{numberOf}
-use Rattle.dossier.specs.Reader.{_>>=_, _>>_, give, refuse, mark, stands, upon, ifAny, present, begin, field, fields, outside, within, equal, nothing}
+use Rattle.dossier.specs.Reader.{_>>=_, _>>_, give, refuse, mark, stands, upon, ifAny, present, begin, field, fields, outside, within, equal, holds, nothing}
 use Rattle.dossier.specs.JudgingRecords.{head, each, stocks, matrix, inRange, fieldsOf, activityMark, activityUnder, activity}
 use Rattle.dossier.specs.Judging.{run, activities}
 use Rattle.dossier.specs.JudgingPlan.{planYear, planEnd, planYears, plan, lentPlan}
@@ -74,9 +74,12 @@ unfolding number bytes total activityBytes _>>=_ _>>_ give present field outside
 limits-hold = (refl, refl)
 
 -- a plan (#103): none, EN alone, rising years, and the first year and the last that 16 bits say; 12 for equal or falling years, EN missing or cut, a byte
--- after it, a mark that is not due
+-- after it, a mark that is not due; #105: other records are no pair, a pair is 14 before what follows it, and after what comes before it
 abbrev plan-of : List ℕ → List ℕ
 plan-of ys = planBytes (map (λ (y : ℕ). record { year = y; activities = Lime 1 1 ∷ [] }) ys)
+
+abbrev plan-with : List Activity → List ℕ
+plan-with l = planBytes (record { year = 2020; activities = l } ∷ [])
 
 abbrev numberAs : List ℕ → ℕ
 numberAs s = numberOf (lentPlan s)
@@ -84,9 +87,11 @@ numberAs s = numberOf (lentPlan s)
 plans : (numberAs [] ≡ 0) × (numberAs (plan-of []) ≡ 0) × (numberAs (plan-of (2020 ∷ 2021 ∷ [])) ≡ 0) × (numberAs (plan-of (0 ∷ 65_535 ∷ [])) ≡ 0)
     × (numberAs (plan-of (2020 ∷ 2020 ∷ [])) ≡ 12) × (numberAs (plan-of (2021 ∷ 2020 ∷ [])) ≡ 12) × (numberAs (take 15 (plan-of (2020 ∷ []))) ≡ 12)
     × (numberAs (take 16 (plan-of (2020 ∷ []))) ≡ 12) × (numberAs (plan-of [] ++ (0 ∷ [])) ≡ 12) × (numberAs (bytes 2 PL ++ plan-of []) ≡ 12)
-unfolding number bytes joined total _>>=_ _>>_ give refuse mark stands upon ifAny present begin field outside within nothing inRange fieldsOf activityMark activityUnder activity
-    activityBytes planYearBytes planBytes run activities planYear planEnd planYears plan lentPlan
-plans = (refl, refl, refl, refl, refl, refl, refl, refl, refl, refl)
+    × (numberAs (plan-with (Lime 1 1 ∷ Fuel 1 1 ∷ Lime 1 2 ∷ [])) ≡ 0) × (numberAs (plan-with (Lime 1 1 ∷ Fuel 1 1 ∷ Lime 1 1 ∷ [])) ≡ 14)
+    × (numberAs (plan-with (Lime 1 1 ∷ Lime 1 1 ∷ Lime 4 1 ∷ [])) ≡ 14) × (numberAs (plan-with (Lime 4 1 ∷ Lime 1 1 ∷ Lime 1 1 ∷ [])) ≡ 12)
+unfolding number bytes joined total _>>=_ _>>_ give refuse mark stands upon ifAny present begin field outside within holds nothing inRange fieldsOf activityMark activityUnder activity
+    activityBytes same fresh planYearBytes planBytes run activities planYear planEnd planYears plan lentPlan
+plans = (refl, refl, refl, refl, refl, refl, refl, refl, refl, refl, refl, refl, refl, refl)
 
 -- project 1,908,170 with planned limestone: 228,247 g are small enough, 228,248 g are not, for both sides are 2,008,600 then
 abbrev with-limestone : ℕ → Figures

@@ -10,6 +10,7 @@ pub mod MatrixLaws
 pub mod OpeningLaws
 pub mod LayoutLaws
 pub mod ActivityLaws
+pub mod SameLaws
 pub mod RunLaws
 pub mod TakenLaws
 pub mod YearLaws
@@ -29,5 +30,7 @@ pub mod SettleSteps
 pub mod FirstBytes
 pub mod Pieces
 pub mod Causes
+pub mod RepeatedLaws
+pub mod PlanRepeated
 pub mod Numbers
 pub mod Examples

@@ -16,7 +16,7 @@ use Rattle.classes.proofs.FactorLaws.{built-in-le}
 use Rattle.classes.proofs.MatrixLaws.{option-one-rows}
 use Rattle.activity.specs.declared.Activity.{Activity}
 use Rattle.activity.specs.declared.Activity.the-variants.{Vehicles}
-use Rattle.activity.specs.Activity.{ActivitiesInRange}
+use Rattle.activity.specs.Activity.{ActivitiesInRange, NoneOf, AllDifferent, RunInRange}
 use Rattle.figures.specs.Year.{Year}
 use Rattle.figures.specs.Reckoning.{afterFigures, afterYear}
 use Rattle.wire.specs.Bytes.{Bytes, bytes, bytesOfEach, joined, total}
@@ -116,6 +116,11 @@ pub longest : (plan : Option Plan) → PlanLent plan → (s : List ℕ) → Byte
 longest plan lent s bs d rest q = let w = dossier-accepted plan lent .sound s bs d rest q in rw (w .1) (dossier-length plan d (w .0))
 
 -- ---- and one of that length is accepted: ST, Option 2, 20 years, each with 60 records of VE
+-- k different ones
+abbrev pub fleets : ℕ → List Activity
+fleets zero = []
+fleets (suc k) = Vehicles 1 k 0 0 ∷ fleets k
+
 abbrev longestYear : ℕ → Year
 longestYear y = record {
   year = y;
@@ -123,7 +128,7 @@ longestYear y = record {
   conversions = 1 ∷ replicate 143 0;
   beltConversions = replicate 144 0;
   planned = false;
-  activities = replicate 60 (Vehicles 1 0 0 0);
+  activities = fleets 60;
 }
 
 abbrev longestYears : ℕ → ℕ → List Year
@@ -142,9 +147,21 @@ longestDossier = record {
   years = longestYears 20 2000;
 }
 
-pub all-alike : (n : ℕ) → ActivitiesInRange (replicate n (Vehicles 1 0 0 0))
-all-alike zero = tt
-all-alike (suc n) = (omega arith, all-alike n)
+fleets-range : (k : ℕ) → k ≤ 60 → ActivitiesInRange (fleets k)
+fleets-range zero h = tt
+fleets-range (suc k) h = (omega arith, fleets-range k (omega arith))
+
+-- by their counts
+fleet-none : (k n : ℕ) → k ≤ n → NoneOf (fleets k) (Vehicles 1 n 0 0)
+fleet-none zero n h = tt
+fleet-none (suc k) n h = ((λ e. let same : n ≡ k = cc in omega arith), fleet-none k n (omega arith))
+
+fleets-different : (k : ℕ) → AllDifferent (fleets k)
+fleets-different zero = tt
+fleets-different (suc k) = (fleet-none k k (omega arith), fleets-different k)
+
+pub sixty-fleets : RunInRange (fleets 60)
+sixty-fleets = record { count = lit≤ tt; each = fleets-range 60 (omega arith); different = fleets-different 60 }
 
 longest-years : (k : ℕ) (due : Due) → due .state .left ≡ k → due .terms .start .0 ≡ 1 → due .terms .beltstart .0 ≡ 0
     → YearsInRange due (longestYears k (due .state .year))
@@ -157,7 +174,7 @@ longest-years (suc k) due l p b = (
     days = omega (arith, days-range (due .state .year));
     conversions = record { count = refl; totals = sym p };
     beltConversions = record { count = refl; totals = sym b };
-    records = (lit≤ tt, all-alike 60);
+    records = sixty-fleets;
     small = λ e. let z : _≡_ {A = ℕ} 0 1 = cc in absurd (omega arith);
   },
   longest-years k (next (longestYear (due .state .year)) due) (omega arith) p b,

@@ -6,21 +6,20 @@ use mathlib.Core.Option.{Option, none, some}
 use mathlib.Core.List.{List, [], _∷_, map}
 use native.Mathlib.Omega.{arith}
 use lib.Dec.{lit≤}
-use lib.ListN.{length, length-append, replicate}
-use Rattle.activity.specs.declared.Activity.the-variants.{Vehicles}
+use lib.ListN.{length, length-append}
 use Rattle.wire.specs.Bytes.{Bytes, bytes, joined}
 use Rattle.dossier.specs.Layouts.{activityBytes}
-use Rattle.dossier.specs.Plan.{PlanYear, PlanYearInRange, planYearBytes, PlanYearsInRange, Plan, PlanInRange, planBytes, PlanLent}
+use Rattle.dossier.specs.Plan.{PlanYear, PlanYearInRange, planYearBytes, PlanYearsInRange, Plan, planBytes, PlanLent}
 use Rattle.dossier.specs.Records.{bytesIfAny}
 use Rattle.dossier.specs.Reader.{accepted}
 use Rattle.dossier.specs.JudgingPlan.{lentPlan}
 use Rattle.wire.proofs.BytesLaws.{length-bytes}
 use Rattle.dossier.proofs.WellFormed.{plan-accepted}
-use Rattle.dossier.proofs.Longest.{run-length, all-alike}
+use Rattle.dossier.proofs.Longest.{run-length, fleets, sixty-fleets}
 
 year-length : (least : ℕ) (p : PlanYear) → PlanYearInRange least p → length (planYearBytes p) ≤ 904
 unfolding planYearBytes joined
-year-length least p r = let h = run-length (p .activities) in let c = r .count in simp (length-append, length-bytes) (omega arith)
+year-length least p r = let h = run-length (p .activities) in let c = r .activities .count in simp (length-append, length-bytes) (omega arith)
 
 years-length : (least : ℕ) (l : List PlanYear) → PlanYearsInRange least l → length (joined (map planYearBytes l)) ≤ length l * 904
 unfolding joined
@@ -41,14 +40,14 @@ longest-plan s bs m rest q = let w = plan-accepted .sound s bs m rest q in rw (w
 -- ---- and one of that length is accepted: 20 years, each with 60 records of VE
 abbrev yearsFrom : ℕ → ℕ → List PlanYear
 yearsFrom zero y = []
-yearsFrom (suc k) y = record { year = y; activities = replicate 60 (Vehicles 1 0 0 0) } ∷ yearsFrom k (y + 1)
+yearsFrom (suc k) y = record { year = y; activities = fleets 60 } ∷ yearsFrom k (y + 1)
 
 abbrev pub fullPlan : Plan
 fullPlan = yearsFrom 20 2000
 
 in-range : (k least : ℕ) → least + k ≤ 65535 → PlanYearsInRange least (yearsFrom k least)
 in-range zero least h = tt
-in-range (suc k) least h = (record { years = omega arith; count = lit≤ tt; activities = all-alike 60 }, in-range k (least + 1) (omega arith))
+in-range (suc k) least h = (record { years = omega arith; activities = sixty-fleets }, in-range k (least + 1) (omega arith))
 
 pub longest-plan-accepted : (lentPlan (planBytes fullPlan) ≡ accepted (some fullPlan) []) × (length (planBytes fullPlan) ≡ 18082)
 unfolding bytesIfAny
@@ -60,4 +59,4 @@ longest-plan-accepted = (
     -- what rises from 2000 on rises from 0 on
     later : (k : ℕ) → PlanYearsInRange 2000 (yearsFrom k 2000) → PlanYearsInRange 0 (yearsFrom k 2000)
     later zero h = tt
-    later (suc k) h = (record { years = omega (arith, h .0 .years); count = h .0 .count; activities = h .0 .activities }, h .1)
+    later (suc k) h = (record { years = omega (arith, h .0 .years); activities = h .0 .activities }, h .1)

@@ -3,6 +3,7 @@
 use Prim.Native.Nat.{ℕ, zero, suc, _+_, _≤_}
 use mathlib.Core.Path.{_≡_, refl, _∙_, ap, sym}
 use mathlib.Core.Bool.{Bool, true, false, cond}
+use mathlib.Core.Logic.{inl, inr}
 use mathlib.Core.Option.{Option, none, some}
 use mathlib.Core.List.{List, [], _∷_, _++_, map, append-assoc, append-nil}
 use native.Mathlib.Omega.{arith}
@@ -10,15 +11,15 @@ use borrow.Author.Tests.{lt-ltb, ltb-false}
 use lib.Dec.{ltb, eqb, lit<}
 use lib.ListN.{length, length-append}
 use Rattle.activity.specs.declared.Activity.{Activity}
-use Rattle.activity.specs.Activity.{ActivitiesInRange}
+use Rattle.activity.specs.Activity.{RunInRange}
 use Rattle.wire.specs.Bytes.{Bytes, bytes, joined}
-use Rattle.dossier.specs.Causes.{planNotOfForm}
+use Rattle.dossier.specs.Causes.{planNotOfForm, recordRepeated, planCauses, _∈_}
 use Rattle.dossier.specs.Marks.{PY, EN}
 use Rattle.dossier.specs.Plan.{PlanYear, PlanYearInRange, planYearBytes, PlanYearsInRange, Plan, PlanInRange, planBytes, PlanLent, recordsIn, recordsFor}
 use Rattle.dossier.specs.Records.{RecordsInRange, bytesIfAny}
 use Rattle.dossier.specs.Reader.{Judged, refused, accepted, after, _>>=_, _>>_, give, mark, stands, is, upon, ifAny, nothing}
 use Rattle.dossier.specs.JudgingRecords.{activityMark}
-use Rattle.dossier.specs.JudgingPlan.{planYear, planEnd, planYears, renumbered, plan, lentPlan}
+use Rattle.dossier.specs.JudgingPlan.{planYear, planEnd, planYears, planFault, renumbered, plan, lentPlan}
 use Rattle.wire.proofs.BytesLaws.{bytes-after, length-bytes}
 use Rattle.dossier.proofs.ReaderLaws.{no, never, step, was, mark-yes, mark-only, stands-bytes, nothing-only}
 use Rattle.dossier.proofs.Exact.{Exact, begin-first, field-then, within-then}
@@ -30,18 +31,18 @@ use Rattle.dossier.proofs.PlanSteps.{year-read}
 abbrev PlanYearThen : ℕ → PlanYear → List ℕ → Type 0
 PlanYearThen least p t = PlanYearInRange least p × Over t
 
-planYear-exact : (least : ℕ) → Exact 0 Any (planYear least) planYearBytes (PlanYearThen least)
+pub planYear-exact : (least : ℕ) → Exact 0 Any (planYear least) planYearBytes (PlanYearThen least)
 unfolding planYear planYearBytes joined
 planYear-exact least =
     begin-first _ _ (lit< tt) (λ p t c r. simp (length-append, length-bytes) (omega arith))
     (field-then _ (λ (p : PlanYear). p .year) (λ p t c r. omega arith) (λ v lv.
     within-then _ _ _ _ (λ p t c r. omega (arith, r .0 .years)) (λ rv.
     last-then (λ (p : PlanYear). p .activities) (λ l. record { year = v; activities = l }) activities-exact
-    (λ p t c r. ((r .0 .count, r .0 .activities, r .1), sym (λ i. record { year = c .1 i; activities = p .activities })))
-    (λ l t k. ((tt, refl), (record { years = rv; count = k .0; activities = k .1 }, k .2), refl)))))
+    (λ p t c r. ((r .0 .activities, r .1), sym (λ i. record { year = c .1 i; activities = p .activities })))
+    (λ l t k. ((tt, refl), (record { years = rv; activities = k .0 }, k .1), refl)))))
 
 -- it begins with PY
-plan-year-begins : (kind : ℕ → Bool) (p : PlanYear) (t : List ℕ) → stands kind (planYearBytes p ++ t) ≡ kind PY
+pub plan-year-begins : (kind : ℕ → Bool) (p : PlanYear) (t : List ℕ) → stands kind (planYearBytes p ++ t) ≡ kind PY
 unfolding planYearBytes joined
 plan-year-begins kind p t = rw append-assoc (stands-bytes kind PY _ (lit< tt))
 
@@ -129,9 +130,9 @@ planYears-only (suc k) least before s bs all t q = go (stands (is PY) s) q (λ p
 
 -- ---- the plan, and what is lent
 -- whatever the number of a refusal
-renumbered-only : {A : Type 0} (n : ℕ) (j : Judged A) {a : A} {t : List ℕ} → renumbered n j ≡ accepted a t → j ≡ accepted a t
-renumbered-only n (refused m) e = no _ _ _ e
-renumbered-only n (accepted a t) e = e
+renumbered-only : {A : Type 0} (f : ℕ → ℕ) (j : Judged A) {a : A} {t : List ℕ} → renumbered f j ≡ accepted a t → j ≡ accepted a t
+renumbered-only f (refused n) e = no _ _ _ e
+renumbered-only f (accepted a t) e = e
 
 abbrev PlanThen : Plan → List ℕ → Type 0
 PlanThen p t = PlanInRange p × (t ≡ [])
@@ -149,7 +150,7 @@ plan-exact = record {
     only : (s : List ℕ) (p : Plan) (t : List ℕ) → ReadPlan 20 0 [] s p t → PlanThen p t × (s ≡ planBytes p ++ t)
     only s p t r = rw (r .whole, r .over) ((record { count = r .count; years = r .each }, refl), r .encoded ∙ encoded (r .more))
 
-    reads : (p : Plan) → PlanInRange p → renumbered planNotOfForm (planYears 20 0 [] (planBytes p ++ [])) ≡ accepted p []
+    reads : (p : Plan) → PlanInRange p → renumbered planFault (planYears 20 0 [] (planBytes p ++ [])) ≡ accepted p []
     reads p r = rw (← encoded p, ← append-nil (planYearsBytes p), planYears-reads 20 0 [] p (r .count) (r .years))
 
 -- bytes are there
@@ -177,29 +178,32 @@ pub lent-then : (m : Option Plan) → PlanLent m → LentThen m []
 lent-then none r = refl
 lent-then (some p) r = ((r, refl), plan-bytes-there p [])
 
--- every refusal of it is 12
-pub lentPlan-refused : (s : List ℕ) (n : ℕ) → lentPlan s ≡ refused n → n ≡ planNotOfForm
+-- every refusal of it is 12 or 14
+pub lentPlan-refused : (s : List ℕ) (n : ℕ) → lentPlan s ≡ refused n → n ∈ planCauses
 unfolding lentPlan ifAny plan give _>>=_
 lentPlan-refused s n e = go (SomeBytes s) (planYears 20 0 [] s) e
   where
-    go : (b : Bool) (j : Judged Plan) → cond b (after (renumbered planNotOfForm j) (λ p. accepted (some p))) (accepted none s) ≡ refused n → n ≡ planNotOfForm
-    go true (refused m) e = cc
+    fault : (b : Bool) → _≡_ {A = Judged (Option Plan)} (refused (cond b recordRepeated planNotOfForm)) (refused n) → n ∈ planCauses
+    fault true e = inr (inl cc)
+    fault false e = inl cc
+
+    go : (b : Bool) (j : Judged Plan) → cond b (after (renumbered planFault j) (λ p. accepted (some p))) (accepted none s) ≡ refused n → n ∈ planCauses
+    go true (refused m) e = fault (eqb m recordRepeated) e
     go true (accepted p u) e = never _ _ _ e
     go false j e = never _ _ _ e
 
 -- ---- what a plan has for a year is in range
-records-in-range : (least : ℕ) (p : Plan) → PlanYearsInRange least p → (year : ℕ) (l : List Activity) → recordsIn p year ≡ some l → (length l ≤ 60) × ActivitiesInRange l
+records-in-range : (least : ℕ) (p : Plan) → PlanYearsInRange least p → (year : ℕ) (l : List Activity) → recordsIn p year ≡ some l → RunInRange l
 unfolding recordsIn
 records-in-range least [] r year l e = let z : _≡_ {A = ℕ} 0 1 = cc in absurd (omega arith)
 records-in-range least (p ∷ rest) r year l e = go (eqb (p .year) year) e (records-in-range (p .year + 1) rest (r .1) year l)
   where
-    go : (b : Bool) → cond b (some (p .activities)) (recordsIn rest year) ≡ some l → (recordsIn rest year ≡ some l → (length l ≤ 60) × ActivitiesInRange l)
-        → (length l ≤ 60) × ActivitiesInRange l
-    go true e ih = let same : p .activities ≡ l = cc in (rw same at (r .0 .count), rw same at (r .0 .activities))
+    go : (b : Bool) → cond b (some (p .activities)) (recordsIn rest year) ≡ some l → (recordsIn rest year ≡ some l → RunInRange l) → RunInRange l
+    go true e ih = let same : p .activities ≡ l = cc in rw same at (r .0 .activities)
     go false e ih = ih e
 
 -- so are the records that a year takes, its own or the plan's
-pub taken-range : (m : Option Plan) → PlanLent m → (year : ℕ) (planned : Bool) (l : List Activity) → RecordsInRange (recordsFor m year) planned l → (length l ≤ 60) × ActivitiesInRange l
+pub taken-range : (m : Option Plan) → PlanLent m → (year : ℕ) (planned : Bool) (l : List Activity) → RecordsInRange (recordsFor m year) planned l → RunInRange l
 unfolding recordsFor
 taken-range m r year false l h = h
 taken-range none r year true l h = let z : _≡_ {A = ℕ} 0 1 = cc in absurd (omega arith)

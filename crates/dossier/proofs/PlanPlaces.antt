@@ -17,7 +17,7 @@ use Rattle.dossier.specs.Marks.{YR, PL, EN}
 use Rattle.dossier.specs.Plan.{Plan, PlanLent, recordsFor}
 use Rattle.dossier.specs.Records.{Opening, OpeningInRange, openingBytes, Due, firstDue, figuresFor, YearInRange, yearBytes, YearsInRange}
 use Rattle.dossier.specs.Claims.{DueInRange}
-use Rattle.dossier.specs.Reader.{refused, _>>=_, _>>_, holds, stands, is}
+use Rattle.dossier.specs.Reader.{refused, _>>=_, _>>_, holds, is}
 use Rattle.dossier.specs.JudgingRecords.{activityMark}
 use Rattle.dossier.specs.Judging.{year, dossier}
 use Rattle.dossier.proofs.ReaderLaws.{stands-bytes}

@@ -14,7 +14,7 @@ use Rattle.dossier.specs.Causes.{planNotOfForm}
 use Rattle.dossier.specs.Marks.{PY, EN}
 use Rattle.dossier.specs.Plan.{PlanYear, Plan}
 use Rattle.dossier.specs.Reader.{refused, accepted, after, _>>=_, _>>_, give, mark, stands, is, upon, ifAny, nothing}
-use Rattle.dossier.specs.JudgingPlan.{planYear, planEnd, planYears, renumbered, plan, lentPlan}
+use Rattle.dossier.specs.JudgingPlan.{planYear, planEnd, planYears, planFault, renumbered, plan, lentPlan}
 use Rattle.dossier.proofs.ReaderLaws.{stood}
 
 -- ---- the years: where PY stands, a year is read and the plan goes on after it, or it is refused; elsewhere it ends
@@ -40,29 +40,29 @@ module _ (least : ℕ) (before : List PlanYear) (s : List ℕ) where
 -- ---- the end: EN and nothing more, or 12
 module _ (years : Plan) (s : List ℕ) where
   -- where not two bytes are left
-  pub end-unfit : (length s ≡ 2 → ⊥) → renumbered planNotOfForm (planEnd years s) ≡ refused planNotOfForm
+  pub end-unfit : (length s ≡ 2 → ⊥) → renumbered planFault (planEnd years s) ≡ refused planNotOfForm
   unfolding planEnd mark nothing _>>_
   end-unfit f = go (ltb (length s) 2) (eqb (number (take 2 s)) EN) (ltb-false _ _)
     where
       go : (short there : Bool) → (short ≡ false → 2 ≤ length s)
-          → renumbered planNotOfForm (after (cond short (refused 1) (cond there (accepted (tt {0}) (drop 2 s)) (refused 2))) (λ _. nothing >> give years)) ≡ refused planNotOfForm
+          → renumbered planFault (after (cond short (refused 1) (cond there (accepted (tt {0}) (drop 2 s)) (refused 2))) (λ _. nothing >> give years)) ≡ refused planNotOfForm
       go true there h = refl
       go false false h = refl
       go false true h = let l : 0 < length (drop 2 s) = simp length-drop (omega (arith, h refl)) in simp (lt-ltb _ _ l)
 
   -- where two are
-  pub end-two : length s ≡ 2 → renumbered planNotOfForm (planEnd years s) ≡ cond (eqb (number (take 2 s)) EN) (accepted years []) (refused planNotOfForm)
+  pub end-two : length s ≡ 2 → renumbered planFault (planEnd years s) ≡ cond (eqb (number (take 2 s)) EN) (accepted years []) (refused planNotOfForm)
   unfolding planEnd mark nothing give _>>_
   end-two h = rw (le-ltb (length s) 2 (omega arith), drop-of-length-le s {i = 2} (omega arith)) (go (eqb (number (take 2 s)) EN))
     where
       go : (there : Bool)
-          → renumbered planNotOfForm (after (cond there (accepted (tt {0}) []) (refused 2)) (λ _. nothing >> give years))
+          → renumbered planFault (after (cond there (accepted (tt {0}) []) (refused 2)) (λ _. nothing >> give years))
           ≡ cond there (accepted years []) (refused planNotOfForm)
       go true = refl
       go false = refl
 
   -- PY is no end
-  pub end-mark : stands (is PY) s ≡ true → renumbered planNotOfForm (planEnd years s) ≡ refused planNotOfForm
+  pub end-mark : stands (is PY) s ≡ true → renumbered planFault (planEnd years s) ≡ refused planNotOfForm
   unfolding planEnd mark _>>_
   end-mark h =
       let (long, e) = stood PY s h in
@@ -76,10 +76,10 @@ module _ (s : List ℕ) where
   lent-none h = rw (le-ltb 0 (length s) (omega arith))
 
   module _ (some-bytes : 0 < length s) where
-    pub lent-refused : renumbered planNotOfForm (planYears 20 0 [] s) ≡ refused planNotOfForm → lentPlan s ≡ refused planNotOfForm
+    pub lent-refused : (n : ℕ) → renumbered planFault (planYears 20 0 [] s) ≡ refused n → lentPlan s ≡ refused n
     unfolding lentPlan ifAny plan _>>=_
-    lent-refused e = rw (lt-ltb _ _ some-bytes, e)
+    lent-refused n e = rw (lt-ltb _ _ some-bytes, e)
 
-    pub lent-some : (p : Plan) (u : List ℕ) → renumbered planNotOfForm (planYears 20 0 [] s) ≡ accepted p u → lentPlan s ≡ accepted (some p) u
+    pub lent-some : (p : Plan) (u : List ℕ) → renumbered planFault (planYears 20 0 [] s) ≡ accepted p u → lentPlan s ≡ accepted (some p) u
     unfolding lentPlan ifAny plan give _>>=_
     lent-some p u e = rw (lt-ltb _ _ some-bytes, e)

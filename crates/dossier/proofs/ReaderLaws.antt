@@ -10,7 +10,7 @@ use lib.Dec.{ltb, eqb}
 use lib.ListN.{length, take, drop, length-append}
 use Rattle.activity.specs.Activity.{Within}
 use Rattle.wire.specs.Bytes.{Bytes, number, bytes}
-use Rattle.dossier.specs.Reader.{Judged, refused, accepted, Reader, after, _>>=_, _>>_, give, mark, begin, stands, is, present, outside, within, equal, nothing}
+use Rattle.dossier.specs.Reader.{Judged, refused, accepted, Reader, after, _>>=_, _>>_, give, mark, begin, stands, is, present, outside, within, equal, holds, nothing}
 use Rattle.wire.proofs.BytesLaws.{length-bytes, split, take-bytes, drop-bytes}
 
 -- no refusal is an acceptance, and no acceptance a refusal
@@ -156,6 +156,12 @@ equal-yes n x y s h = simp (eq-eqb _ _ h)
 pub equal-only : (n x y : ℕ) (s : List ℕ) {z : Unit {0}} {u : List ℕ} → equal n x y s ≡ accepted z u → (x ≡ y) × (s ≡ u)
 unfolding equal
 equal-only n x y s e = let p = cond-accepted (eqb x y) _ _ e in (eqb-true _ _ (p .0), was (p .1) .1)
+
+-- a test, and a reader after it
+pub held-only : {B : Type 0} (n : ℕ) (b : Bool) (q : Reader B) (s : List ℕ) {x : B} {t : List ℕ} → (holds n b >> q) s ≡ accepted x t → (b ≡ true) × (q s ≡ accepted x t)
+unfolding holds _>>_
+held-only n true q s e = (refl, e)
+held-only n false q s e = no _ _ _ e
 
 -- ---- what stands before bytes, and the ends
 pub stands-short : (kind : ℕ → Bool) (s : List ℕ) → length s < 2 → stands kind s ≡ false

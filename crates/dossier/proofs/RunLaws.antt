@@ -9,21 +9,26 @@ use borrow.Author.Tests.{lt-ltb, ltb-true, ltb-false}
 use lib.Dec.{ltb}
 use lib.ListN.{length, length-append}
 use Rattle.activity.specs.declared.Activity.{Activity}
-use Rattle.activity.specs.Activity.{ActivityInRange, ActivitiesInRange}
+use Rattle.activity.specs.Activity.{ActivityInRange, ActivitiesInRange, NoneOf, AllDifferent, RunInRange}
 use Rattle.wire.specs.Bytes.{Bytes, joined}
-use Rattle.dossier.specs.Layouts.{activityBytes}
-use Rattle.dossier.specs.Reader.{refused, accepted, Reader, after, _>>=_, give, refuse, stands, upon}
+use Rattle.dossier.specs.Layouts.{activityBytes, fresh}
+use Rattle.dossier.specs.Reader.{refused, accepted, Reader, after, _>>=_, _>>_, give, refuse, stands, upon, holds}
 use Rattle.dossier.specs.JudgingRecords.{activityMark, activity}
 use Rattle.dossier.specs.Judging.{run, activities}
 use Rattle.wire.proofs.BytesLaws.{bytes-after}
-use Rattle.dossier.proofs.ReaderLaws.{no, step, was}
+use Rattle.dossier.proofs.ReaderLaws.{no, step, was, held-only}
 use Rattle.dossier.proofs.Exact.{Exact}
 use Rattle.dossier.proofs.ExactParts.{Any}
 use Rattle.dossier.proofs.ActivityLaws.{activity-exact, begins-activity}
+use Rattle.dossier.proofs.SameLaws.{fresh-none, none-fresh, different-more, different-at}
+
+-- the run after one more record, if it is none of those before
+abbrev pub oneMore : List Activity → Activity → Reader (List Activity)
+oneMore before a = holds 14 (fresh before a) >> activities (before ++ (a ∷ []))
 
 -- the run without a count: where an activity mark stands, the 61st is 9, and another is read and the run goes on after it; elsewhere the run is over
 pub activities-are : (before : List Activity) (s : List ℕ)
-    → activities before s ≡ upon activityMark (cond (ltb (length before) 60) (activity >>= λ a. activities (before ++ (a ∷ []))) (refuse 9)) (give before) s
+    → activities before s ≡ upon activityMark (cond (ltb (length before) 60) (activity >>= oneMore before) (refuse 9)) (give before) s
 activities-are before s = go (ltb (length before) 60) (ltb-true _ _) (ltb-false _ _)
   where
     some : length before < 60 → 60 - length before ≡ suc (59 - length before)
@@ -36,16 +41,24 @@ activities-are before s = go (ltb (length before) 60) (ltb-true _ _) (ltb-false 
     full h = omega arith
 
     go : (b : Bool) → (b ≡ true → length before < 60) → (b ≡ false → 60 ≤ length before)
-        → activities before s ≡ upon activityMark (cond b (activity >>= λ a. activities (before ++ (a ∷ []))) (refuse 9)) (give before) s
+        → activities before s ≡ upon activityMark (cond b (activity >>= oneMore before) (refuse 9)) (give before) s
     go true h k =
         unfold activities run in
-        rw (some (h refl)) (ap (λ (f : Activity → Reader (List Activity)). upon activityMark (activity >>= f) (give before) s) (λ i a. run (one-less (h refl) a i) (before ++ (a ∷ []))))
+        rw (some (h refl)) (ap (λ (f : Activity → Reader (List Activity)). upon activityMark (activity >>= f) (give before) s) (λ i a. holds 14 (fresh before a) >> run (one-less (h refl) a i) (before ++ (a ∷ []))))
     go false h k = unfold activities run in rw (full (k refl))
 
-pub activities-step : (before : List Activity) (s : List ℕ) {a : Activity} {u : List ℕ} → length before < 60 → stands activityMark s ≡ true → activity s ≡ accepted a u
-    → activities before s ≡ activities (before ++ (a ∷ [])) u
-unfolding upon _>>=_
-activities-step before s h m e = activities-are before s ∙ rw (m, lt-ltb _ _ h, e)
+-- a record that is read: the run goes on after it, or it is one of those before and 14
+module _ (before : List Activity) (s : List ℕ) {a : Activity} {u : List ℕ} (h : length before < 60) (m : stands activityMark s ≡ true) (e : activity s ≡ accepted a u) where
+  pub activities-one : activities before s ≡ cond (fresh before a) (activities (before ++ (a ∷ [])) u) (refused 14)
+  unfolding upon holds _>>=_ _>>_
+  activities-one = activities-are before s ∙ rw (m, lt-ltb _ _ h, e) (go (fresh before a))
+    where
+      go : (b : Bool) → after (cond b (accepted (tt {0}) u) (refused 14)) (λ _. activities (before ++ (a ∷ []))) ≡ cond b (activities (before ++ (a ∷ [])) u) (refused 14)
+      go true = refl
+      go false = refl
+
+  pub activities-step : NoneOf before a → activities before s ≡ activities (before ++ (a ∷ [])) u
+  activities-step k = activities-one ∙ rw (none-fresh before a k)
 
 -- no activity mark stands before t
 abbrev pub Over : List ℕ → Type 0
@@ -59,14 +72,16 @@ unfolding upon give
 activities-over before t o = activities-are before t ∙ rw o
 
 -- records in range are read, and the run goes on at what follows them
-pub activities-continue : (before l : List Activity) (t : List ℕ) → length before + length l ≤ 60 → ActivitiesInRange l → activities before (runBytes l ++ t) ≡ activities (before ++ l) t
+pub activities-continue : (before l : List Activity) (t : List ℕ) → length before + length l ≤ 60 → ActivitiesInRange l → AllDifferent (before ++ l)
+    → activities before (runBytes l ++ t) ≡ activities (before ++ l) t
 unfolding runBytes joined
-activities-continue before [] t n p = rw append-nil
-activities-continue before (a ∷ l) t n p =
+activities-continue before [] t n p d = rw append-nil
+activities-continue before (a ∷ l) t n p d =
     let u = runBytes l ++ t in
     let m : length (before ++ (a ∷ [])) + length l ≤ 60 = simp length-append (omega arith) in
-    let x = activities-step before (activityBytes a ++ u) (omega arith) (begins-activity a u) (activity-exact .reads a u tt (p .0)) in
-    rw append-assoc (x ∙ activities-continue (before ++ (a ∷ [])) l t m (p .1) ∙ ap (λ (r : List Activity). activities r t) (append-assoc before (a ∷ []) l))
+    let x = activities-step before (activityBytes a ++ u) (omega arith) (begins-activity a u) (activity-exact .reads a u tt (p .0)) (different-at before a l d) in
+    let later : AllDifferent ((before ++ (a ∷ [])) ++ l) = rw append-assoc d in
+    rw append-assoc (x ∙ activities-continue (before ++ (a ∷ [])) l t m (p .1) later ∙ ap (λ (r : List Activity). activities r t) (append-assoc before (a ∷ []) l))
 
 -- l was read after before, and t follows
 record Ran (k : ℕ) (before : List Activity) (s : List ℕ) (all : List Activity) (t : List ℕ) : Type 0 where
@@ -74,22 +89,32 @@ record Ran (k : ℕ) (before : List Activity) (s : List ℕ) (all : List Activit
   whole : all ≡ before ++ more
   count : length more ≤ k
   each : ActivitiesInRange more
+  different : AllDifferent before → AllDifferent all
   over : Over t
   encoded : s ≡ runBytes more ++ t
 
 stopped : (k : ℕ) (before : List Activity) (s : List ℕ) (all : List Activity) (t : List ℕ) → Over s → accepted before s ≡ accepted all t → Ran k before s all t
 unfolding runBytes joined
 stopped k before s all t o q =
-    record { more = []; whole = sym (was q .0) ∙ sym (append-nil before); count = omega arith; each = tt; over = rw (← was q .1) o; encoded = was q .1 }
+    record {
+      more = [];
+      whole = sym (was q .0) ∙ sym (append-nil before);
+      count = omega arith;
+      each = tt;
+      different = λ d. rw (← was q .0) d;
+      over = rw (← was q .1) o;
+      encoded = was q .1;
+    }
 
-one-more : (k : ℕ) (before : List Activity) (s : List ℕ) (a : Activity) (u : List ℕ) (all : List Activity) (t : List ℕ) → ActivityInRange a → s ≡ activityBytes a ++ u
+one-more : (k : ℕ) (before : List Activity) (s : List ℕ) (a : Activity) (u : List ℕ) (all : List Activity) (t : List ℕ) → ActivityInRange a → NoneOf before a → s ≡ activityBytes a ++ u
     → Ran k (before ++ (a ∷ [])) u all t → Ran (suc k) before s all t
 unfolding runBytes joined
-one-more k before s a u all t p e r = record {
+one-more k before s a u all t p f e r = record {
   more = a ∷ r .more;
   whole = r .whole ∙ append-assoc before (a ∷ []) (r .more);
   count = omega arith;
   each = (p, r .each);
+  different = λ d. r .different (different-more before a d f);
   over = r .over;
   encoded = e ∙ ap (λ (x : List ℕ). activityBytes a ++ x) (r .encoded) ∙ sym (append-assoc (activityBytes a) (runBytes (r .more)) t);
 }
@@ -103,17 +128,21 @@ run-only zero before s bs all t q = go (stands activityMark s) refl q
     go false h q = stopped 0 before s all t h q
 run-only (suc k) before s bs all t q = go (stands activityMark s) refl q (λ a u b. run-only k (before ++ (a ∷ [])) u b all t)
   where
-    go : (h : Bool) → stands activityMark s ≡ h → cond h (after (activity s) (λ a. run k (before ++ (a ∷ [])))) (accepted before s) ≡ accepted all t
+    next : Activity → Reader (List Activity)
+    next a = holds 14 (fresh before a) >> run k (before ++ (a ∷ []))
+
+    go : (h : Bool) → stands activityMark s ≡ h → cond h (after (activity s) next) (accepted before s) ≡ accepted all t
         → ((a : Activity) (u : List ℕ) → Bytes u → run k (before ++ (a ∷ [])) u ≡ accepted all t → Ran k (before ++ (a ∷ [])) u all t) → Ran (suc k) before s all t
     go false h q ih = stopped (suc k) before s all t h q
     go true h q ih =
-        let f = step (activity s) (λ a. run k (before ++ (a ∷ []))) q in
-        let g = activity-exact .only s bs (omega arith) (f .0) (f .1) (f .2) in
-        one-more k before s (f .0) (f .1) all t (g .1) (g .2) (ih (f .0) (f .1) (bytes-after (activityBytes (f .0)) (f .1) (rw (g .2) at bs)) (f .3))
+        let (a, u, e, r) = step (activity s) next q in
+        let g = activity-exact .only s bs (omega arith) a u e in
+        let w = held-only 14 (fresh before a) (run k (before ++ (a ∷ []))) u r in
+        one-more k before s a u all t (g .1) (fresh-none before a (w .0)) (g .2) (ih a u (bytes-after (activityBytes a) u (rw (g .2) at bs)) (w .1))
 
 -- a year's activity records, and no activity mark after them
 abbrev pub RunThen : List Activity → List ℕ → Type 0
-RunThen l t = (length l ≤ 60) × ActivitiesInRange l × Over t
+RunThen l t = RunInRange l × Over t
 
 pub activities-exact : Exact 0 Any (activities []) (λ l. joined (map activityBytes l)) RunThen
 unfolding activities runBytes
@@ -123,7 +152,7 @@ activities-exact = record {
 }
   where
     reads : (l : List Activity) (t : List ℕ) → RunThen l t → activities [] (runBytes l ++ t) ≡ accepted l t
-    reads l t p = activities-continue [] l t (omega (arith, p .0)) (p .1) ∙ activities-over l t (p .2)
+    reads l t p = activities-continue [] l t (omega (arith, p .0 .count)) (p .0 .each) (p .0 .different) ∙ activities-over l t (p .1)
 
     first : {s : List ℕ} {l : List Activity} {t : List ℕ} → Ran (60 - 0) [] s l t → RunThen l t
-    first r = rw (r .whole) (omega arith, r .each, r .over)
+    first r = (record { count = rw (r .whole) (omega arith); each = rw (r .whole) (r .each); different = r .different tt }, r .over)

@@ -10,7 +10,7 @@ use borrow.Author.Tests.{le-ltb, eq-eqb, eqb-true}
 use lib.Dec.{ltb, eqb, lit<}
 use lib.ListN.{length, take, drop}
 use Rattle.activity.specs.declared.Activity.{Activity}
-use Rattle.activity.specs.Activity.{ActivitiesInRange}
+use Rattle.activity.specs.Activity.{RunInRange}
 use Rattle.wire.specs.Bytes.{Bytes, number, bytes, joined}
 use Rattle.dossier.specs.Marks.{PL}
 use Rattle.dossier.specs.Layouts.{activityBytes}
@@ -96,7 +96,7 @@ module _ (fromPlan : Option (List Activity)) where
   taken-reads : (planned : Bool) (l : List Activity) (t : List ℕ) → RecordsInRange fromPlan planned l → Follows planned l t
       → taken fromPlan (recordsBytes planned l ++ t) ≡ accepted (record { planned = planned; activities = l }) t
   unfolding taken upon recordsBytes runBytes _>>=_ _>>_ give
-  taken-reads false l t p f = rw (f .1, activities-exact .reads l t tt (p .0, p .1, f .0))
+  taken-reads false l t p f = rw (f .1, activities-exact .reads l t tt (p, f .0))
   taken-reads true l t p f = rw (stands-bytes (is PL) PL t (lit< tt), mark-yes PL t (lit< tt), p) (unfold fromThePlan give in refl)
 
   from-the-plan-only : (m : Option (List Activity)) (s : List ℕ) {r : Taken} {t : List ℕ} → fromThePlan m s ≡ accepted r t
@@ -116,10 +116,10 @@ module _ (fromPlan : Option (List Activity)) where
           → TakenThen fromPlan r t × (s ≡ recordsBytes (r .planned) (r .activities) ++ t)
       planned u e w = rw (w .0) ((w .1, tt), unfold recordsBytes in e ∙ rw (w .2))
 
-      own : (l : List Activity) (u : List ℕ) → stands (is PL) s ≡ false → (length l ≤ 60) × ActivitiesInRange l × Over u → s ≡ joined (map activityBytes l) ++ u
+      own : (l : List Activity) (u : List ℕ) → stands (is PL) s ≡ false → RunInRange l × Over u → s ≡ joined (map activityBytes l) ++ u
           → accepted (record { planned = false; activities = l }) u ≡ accepted r t → TakenThen fromPlan r t × (s ≡ recordsBytes (r .planned) (r .activities) ++ t)
       own l u h p e w =
-          rw (← was w .0, ← was w .1) (((p .0, p .1), (p .2, unfold runBytes in rw (← e) h)), unfold recordsBytes in e)
+          rw (← was w .0, ← was w .1) ((p .0, (p .1, unfold runBytes in rw (← e) h)), unfold recordsBytes in e)
 
       go : (b : Bool) → stands (is PL) s ≡ b
           → cond b (after (mark PL s) (λ _. fromThePlan fromPlan)) (after (activities [] s) (λ l. give (record { planned = false; activities = l }))) ≡ accepted r t

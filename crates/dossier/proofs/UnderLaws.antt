@@ -8,13 +8,13 @@ use mathlib.Core.List.{List, [], _∷_}
 use lib.Dec.{T}
 use lib.ListN.{take}
 use Rattle.wire.specs.Bytes.{Bytes}
-use Rattle.dossier.specs.Causes.{planNotOfForm, yearCauses, _∈_}
+use Rattle.dossier.specs.Causes.{planNotOfForm, recordRepeated, planCauses, yearCauses, _∈_}
 use Rattle.dossier.specs.Plan.{Plan, PlanLent}
 use Rattle.dossier.specs.Records.{Due, WellFormedPlan}
 use Rattle.dossier.specs.Reader.{Judged, refused, accepted, Reader, after, give, ifAny}
 use Rattle.dossier.specs.Judging.{dossier, yearPiece}
 use Rattle.dossier.specs.JudgingPlan.{lentPlan, under}
-use Rattle.dossier.proofs.CauseLaws.{noneOfPlan, not-of-plan, dossierCauses}
+use Rattle.dossier.proofs.CauseLaws.{listed, without, not-listed, dossierCauses}
 use Rattle.dossier.proofs.Causes.{Numbered, yearPiece-causes, dossier-causes}
 use Rattle.dossier.proofs.PlanLaws.{lentPlan-refused}
 use Rattle.dossier.proofs.WellFormed.{plan-accepted}
@@ -52,31 +52,33 @@ module _ {A : Type 0} (judge : Option Plan → Reader A) (s planned : List ℕ) 
 pub no-plan : {A : Type 0} (judge : Option Plan → Reader A) (s : List ℕ) → under [] judge s ≡ judge none s
 no-plan judge s = no-plan-there judge s [] refl
 
--- its numbers: 12, or those of what is judged
-pub under-causes : {A : Type 0} (judge : Option Plan → Reader A) (own : List ℕ) → ((p : Option Plan) → Numbered own (judge p))
+-- its numbers: the plan's, 14 being one of what is judged too, or those of what is judged
+pub under-causes : {A : Type 0} (judge : Option Plan → Reader A) (own : List ℕ) → recordRepeated ∈ own → ((p : Option Plan) → Numbered own (judge p))
     → (planned : List ℕ) → Numbered (planNotOfForm ∷ own) (under planned judge)
 unfolding under
-under-causes {A} judge own causes planned s n e = go (lentPlan planned) refl e
+under-causes {A} judge own too causes planned s n e = go (lentPlan planned) refl e
   where
+    of-plan : n ∈ planCauses → n ∈ (planNotOfForm ∷ own)
+    of-plan (inl c) = inl c
+    of-plan (inr (inl c)) = inr (rw c too)
+    of-plan (inr (inr c)) = absurd c
+
     go : (j : Judged (Option Plan)) → lentPlan planned ≡ j → after j (λ p _. judge p s) ≡ refused n → n ∈ (planNotOfForm ∷ own)
-    go (refused m) f e =
-        let same : m ≡ n = cc in
-        let first = lentPlan-refused planned m f in
-        inl (sym same ∙ first)
+    go (refused m) f e = let same : m ≡ n = cc in of-plan (rw same at (lentPlan-refused planned m f))
     go (accepted p rest) f e = inr (causes p s n e)
 
 pub yearPiece-under-causes : (due : Option Plan → Due) (planned : List ℕ) → Numbered (planNotOfForm ∷ yearCauses) (under planned (λ p. yearPiece (due p)))
-yearPiece-under-causes due = under-causes (λ p. yearPiece (due p)) yearCauses (λ p. yearPiece-causes (due p))
+yearPiece-under-causes due = under-causes (λ p. yearPiece (due p)) yearCauses (listed _ yearCauses tt) (λ p. yearPiece-causes (due p))
 
 pub dossier-under-causes : (planned : List ℕ) → Numbered (planNotOfForm ∷ dossierCauses) (under planned dossier)
-dossier-under-causes = under-causes dossier dossierCauses dossier-causes
+dossier-under-causes = under-causes dossier dossierCauses (listed _ dossierCauses tt) dossier-causes
 
 -- where 12 is answered, the bytes are no plan: what is judged under a plan has other numbers
-pub under-none : {A : Type 0} (judge : Option Plan → Reader A) (own : List ℕ) → T (noneOfPlan own) → ((p : Option Plan) → Numbered own (judge p)) → (planned s : List ℕ)
+pub under-none : {A : Type 0} (judge : Option Plan → Reader A) (own : List ℕ) → T (without planNotOfForm own) → ((p : Option Plan) → Numbered own (judge p)) → (planned s : List ℕ)
     → under planned judge s ≡ refused planNotOfForm → (p : Option Plan) → WellFormedPlan p planned → ⊥
 under-none judge own others causes planned s e p (lent, ep) =
     let plan-is : lentPlan planned ≡ accepted p [] = ap lentPlan ep ∙ plan-accepted .complete p lent in
-    not-of-plan own others (causes p s planNotOfForm (sym (under-accepted judge s planned p [] plan-is) ∙ e))
+    not-listed planNotOfForm own others (causes p s planNotOfForm (sym (under-accepted judge s planned p [] plan-is) ∙ e))
 
 -- the first 65,536 bytes of a dossier settle what it is, whatever the plan
 pub under-first-bytes : (planned s : List ℕ) → Bytes planned → Bytes s → under planned dossier (take 65536 s) ≡ under planned dossier s

@@ -22,16 +22,17 @@ use Rattle.dossier.specs.Causes.{
   activityOutOfRange,
   tooManyActivities,
   plannedYearWrong,
+  recordRepeated,
   openingCauses,
   yearCauses,
   _∈_,
 }
 use Rattle.dossier.specs.Marks.{ST, YR, PL, EN}
 use Rattle.dossier.specs.Layouts.{Made, Layout, layouts}
-use Rattle.dossier.specs.Records.{Due, next, figuresFor}
+use Rattle.dossier.specs.Records.{Due, next}
 use Rattle.dossier.specs.Reader.{Reader, _>>=_, _>>_, give, refuse, mark, is, upon, ifAny, present, begin, field, fields, outside, within, equal, holds, nothing}
 use Rattle.dossier.specs.JudgingRecords.{head, each, stocks, stocksIfAny, areas, matrix, matrixUnder, conversions, inRange, madeFrom, fieldsOf, rowUnder, activityMark, activityUnder, activity}
-use Rattle.dossier.specs.Judging.{opening, run, activities, fromThePlan, taken, noneLeft, yearRecords, yearLeft, allowed, year, end, years}
+use Rattle.dossier.specs.Judging.{opening, run, activities, fromThePlan, taken, noneLeft, yearRecords, yearLeft, year, end, years}
 use Rattle.dossier.proofs.ReaderLaws.{bind-bind}
 use Rattle.dossier.proofs.CauseLaws.{member, listed}
 use Rattle.dossier.proofs.LayoutLaws.{longestRecord}
@@ -76,6 +77,10 @@ module _ (Allowed : ℕ → Type 0) (P : (A : Type 0) → ℕ → Reader A → T
   equals : (n x y : ℕ) → Allowed n → P _ 0 (equal n x y)
   unfolding equal refuse give
   equals n x y h = tested (eqb x y) (c .give tt) (c .refuse n h)
+
+  held : (n : ℕ) (b : Bool) → Allowed n → P _ 0 (holds n b)
+  unfolding holds refuse give
+  held n b h = tested b (c .give tt) (c .refuse n h)
 
   all-of : (k : ℕ) {test : ℕ → Reader (Unit {0})} → ((i : ℕ) → P _ 0 (test i)) → P _ 0 (each k test)
   unfolding each
@@ -123,16 +128,12 @@ module _ (Allowed : ℕ → Type 0) (P : (A : Type 0) → ℕ → Reader A → T
     openings =
         c .bind heads (λ h. c .bind if-filed (λ s. c .bind (some-areas _ _) (λ p. c .bind (some-areas _ _) (λ b. c .bind (under (h .option)) (λ m. c .give _)))))
 
-  -- ---- the years, where their own causes are allowed
-  module _ (own : (n : ℕ) → n ∈ yearCauses → Allowed n) where
-    of-year : {n : ℕ} → T (member n yearCauses) → Allowed n
-    of-year {n} t = own n (listed n yearCauses t)
-
-    -- activity records: any row of the table, any table, and k of them with the mark after them
+  -- ---- an activity record: any row of the table, any table
+  module _ (other : Allowed markNotDue) (range : Allowed activityOutOfRange) where
     in-range : (rs : List Range) (a : Activity) → P _ 0 (inRange rs a)
     unfolding inRange
     in-range [] a = c .give a
-    in-range (r ∷ rest) a = seq (withins activityOutOfRange _ _ _ (of-year tt)) (in-range rest a)
+    in-range (r ∷ rest) a = seq (withins activityOutOfRange _ _ _ range) (in-range rest a)
 
     made-from : (widths : List ℕ) (made : Made widths) → P _ (total widths) (madeFrom widths made)
     unfolding total
@@ -141,20 +142,26 @@ module _ (Allowed : ℕ → Type 0) (P : (A : Type 0) → ℕ → Reader A → T
 
     some-row : (table : List Layout) → AllRight table → (m : ℕ) → P _ (longestRecord - 2) (rowUnder table m)
     unfolding fieldsOf
-    some-row [] f m = c .more (c .refuse markNotDue (of-year tt)) (omega arith)
+    some-row [] f m = c .more (c .refuse markNotDue other) (omega arith)
     some-row (l ∷ rest) f m =
         one-of (is (l .mark) m) (c .more (c .present (made-from (l .widths) (l .made)) (omega arith)) (omega (arith, f .0 .short))) (some-row rest (f .1) m)
 
-    an-activity : P _ longestRecord activity
+    pub an-activity : P _ longestRecord activity
     unfolding activity activityUnder
     an-activity = c .present (c .bind (c .field 2) (some-row layouts all-right)) (omega arith)
 
+  -- ---- the years, where their own causes are allowed
+  module _ (own : (n : ℕ) → n ∈ yearCauses → Allowed n) where
+    of-year : {n : ℕ} → T (member n yearCauses) → Allowed n
+    of-year {n} t = own n (listed n yearCauses t)
+
+    -- k activity records, and the mark after them
     runs : (k : ℕ) (before : List Activity) → P _ (k * longestRecord + 2) (run k before)
     unfolding run
     runs zero before =
         c .choice activityMark (c .more (c .refuse tooManyActivities (of-year tt)) (omega arith)) (c .more (c .give before) (omega arith)) (omega arith)
     runs (suc k) before =
-        c .choice activityMark (c .more (c .bind an-activity (λ a. runs k (before ++ (a ∷ [])))) (omega arith)) (c .more (c .give before) (omega arith)) (omega arith)
+        c .choice activityMark (c .more (c .bind (an-activity (of-year tt) (of-year tt)) (λ a. seq (held recordRepeated _ (of-year tt)) (runs k (before ++ (a ∷ []))))) (omega arith)) (c .more (c .give before) (omega arith)) (omega arith)
 
     none-lefts : {A : Type 0} → P _ 6 (noneLeft {A = A})
     unfolding noneLeft
@@ -183,8 +190,8 @@ module _ (Allowed : ℕ → Type 0) (P : (A : Type 0) → ℕ → Reader A → T
         (c .bind (some-conversions _ _) (λ p. c .bind (some-conversions _ _) (λ b. c .bind (records-taken fromPlan) (λ l. c .give _)))))))) (omega arith))
 
     pub a-year : (due : Due) → P _ 3216 (year due)
-    unfolding year holds give refuse
-    a-year due = c .bind (years-records _ _ _ _ _) (λ y. seq (tested (allowed (y .planned) (figuresFor due y)) (c .give tt) (c .refuse plannedYearWrong (of-year tt))) (c .give y))
+    unfolding year
+    a-year due = c .bind (years-records _ _ _ _ _) (λ y. seq (held plannedYearWrong _ (of-year tt)) (c .give y))
 
     -- k years; then EN and a byte after it, or YR with its fields
     pub some-years : (k : ℕ) (due : Due) (before : List Year) → P _ (k * 3216 + 6) (years k due before)

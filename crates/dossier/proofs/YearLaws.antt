@@ -12,7 +12,7 @@ use lib.ListN.{length, length-append}
 use Rattle.classes.specs.Calendar.{daysInYear}
 use Rattle.classes.proofs.CalendarLaws.{days-range}
 use Rattle.activity.specs.declared.Activity.{Activity}
-use Rattle.activity.specs.Activity.{Within, ActivitiesInRange}
+use Rattle.activity.specs.Activity.{Within, RunInRange}
 use Rattle.figures.specs.Year.{Year}
 use Rattle.figures.specs.Figures.{smallActivity}
 use Rattle.wire.specs.Bytes.{Bytes, bytes, joined}
@@ -197,14 +197,14 @@ module _ (due : Due) (h : DueInRange due) (y : Year) (p : TablesInRange due y) w
       )))
 
 -- 60 activity records of its own, and the mark of one more: 9, whatever follows the mark
-pub sixty-one : (fromPlan : Option (List Activity)) (l : List Activity) (s : List ℕ) → length l ≡ 60 → ActivitiesInRange l → stands activityMark s ≡ true → taken fromPlan (runBytes l ++ s) ≡ refused 9
+pub sixty-one : (fromPlan : Option (List Activity)) (l : List Activity) (s : List ℕ) → length l ≡ 60 → RunInRange l → stands activityMark s ≡ true → taken fromPlan (runBytes l ++ s) ≡ refused 9
 sixty-one fromPlan l s n r m =
-    let f : activities [] (runBytes l ++ s) ≡ refused 9 = activities-continue [] l s (omega arith) r ∙ sixty-first l s (omega arith) m in
+    let f : activities [] (runBytes l ++ s) ≡ refused 9 = activities-continue [] l s (omega arith) (r .each) (r .different) ∙ sixty-first l s (omega arith) m in
     taken-own fromPlan (runBytes l ++ s) (run-not-planned l s m) ∙ rw f
 
 pub year-sixty-one : (due : Due) → DueInRange due → (y : Year) → YearInRange due y → y .planned ≡ false → length (y .activities) ≡ 60 → (s : List ℕ) → stands activityMark s ≡ true
     → year due (yearBytes y ++ s) ≡ refused 9
 year-sixty-one due h y p own n s m =
-    let r : (length (y .activities) ≤ 60) × ActivitiesInRange (y .activities) = rw own at (p .records) in
+    let r : RunInRange (y .activities) = rw own at (p .records) in
     let e : yearBytes y ++ s ≡ tablesBytes y ++ (runBytes (y .activities) ++ s) = unfold yearBytes joined runBytes recordsBytes in rw own (simp (append-assoc, append-nil)) in
-    rw e (records-refused due h y (tables-of due y p) (runBytes (y .activities) ++ s) 9 (sixty-one _ (y .activities) s n (r .1) m))
+    rw e (records-refused due h y (tables-of due y p) (runBytes (y .activities) ++ s) 9 (sixty-one _ (y .activities) s n r m))

@@ -58,20 +58,29 @@ planNotOfForm = 12
 abbrev pub plannedYearWrong : ℕ
 plannedYearWrong = 13
 
+-- "14, after the later record's fields, in a plan too" (#105)
+abbrev pub recordRepeated : ℕ
+recordRepeated = 14
+
 -- the whole table
 abbrev pub causes : List ℕ
 causes =
     bytesMissing ∷ markNotDue ∷ headOutOfRange ∷ areaTotalWrong ∷ rowSumWrong ∷ yearWrong ∷ conversionTotalWrong ∷ activityOutOfRange ∷ tooManyActivities
-    ∷ bufferTooShort ∷ stockOutOfRange ∷ planNotOfForm ∷ plannedYearWrong ∷ []
+    ∷ bufferTooShort ∷ stockOutOfRange ∷ planNotOfForm ∷ plannedYearWrong ∷ recordRepeated ∷ []
 
 -- ---- the causes for which each call may refuse
 -- HD, ST, PA, DA and MP
 abbrev pub openingCauses : List ℕ
 openingCauses = bytesMissing ∷ markNotDue ∷ headOutOfRange ∷ areaTotalWrong ∷ rowSumWrong ∷ stockOutOfRange ∷ []
 
--- YR, CP, CD, and the activity records or PL; the cause of the plan, planNotOfForm, comes before these
+-- a plan, "judged before dossier or piece" (#103)
+abbrev pub planCauses : List ℕ
+planCauses = planNotOfForm ∷ recordRepeated ∷ []
+
+-- YR, CP, CD, and the activity records or PL
 abbrev pub yearCauses : List ℕ
-yearCauses = bytesMissing ∷ markNotDue ∷ yearWrong ∷ conversionTotalWrong ∷ activityOutOfRange ∷ tooManyActivities ∷ plannedYearWrong ∷ []
+yearCauses =
+    bytesMissing ∷ markNotDue ∷ yearWrong ∷ conversionTotalWrong ∷ activityOutOfRange ∷ tooManyActivities ∷ plannedYearWrong ∷ recordRepeated ∷ []
 
 -- a closing: the buffer's alone
 abbrev pub closingCauses : List ℕ

@@ -12,8 +12,9 @@ use Rattle.activity.specs.declared.Activity.{Activity}
 use Rattle.figures.specs.declared.Figures.{Figures}
 use Rattle.figures.specs.Year.{Year}
 use Rattle.figures.specs.Figures.{smallActivity}
-use Rattle.dossier.specs.Causes.{yearWrong, tooManyActivities, plannedYearWrong}
+use Rattle.dossier.specs.Causes.{yearWrong, tooManyActivities, plannedYearWrong, recordRepeated}
 use Rattle.dossier.specs.Marks.{PA, DA, YR, CP, CD, PL, EN}
+use Rattle.dossier.specs.Layouts.{fresh}
 use Rattle.dossier.specs.Plan.{Plan, recordsFor}
 use Rattle.dossier.specs.Records.{Opening, Due, firstDue, next, figuresFor, Dossier}
 use Rattle.dossier.specs.Reader.{Reader, _>>=_, _>>_, give, refuse, mark, is, upon, begin, field, within, equal, holds, nothing, endOfPiece}
@@ -30,10 +31,10 @@ opening = do
   give (record { head = h; stocks = filed; projectAreas = project; beltAreas = belt; matrix = m })
 
 -- a year's activity records: those before are read already, up to `more` may follow. "61st activity record of a year": 9, which its mark alone
--- decides, before bytes missing
+-- decides, before bytes missing; #105: 14 "after the later record's fields"
 unfoldable pub run : ℕ → List Activity → Reader (List Activity)
 run zero before = upon activityMark (refuse tooManyActivities) (give before)
-run (suc more) before = upon activityMark (do a ← activity; run more (before ++ (a ∷ []))) (give before)
+run (suc more) before = upon activityMark (do a ← activity; holds recordRepeated (fresh before a); run more (before ++ (a ∷ []))) (give before)
 
 -- "0 to 60 activity records", those before among them; activities-are in proofs/RunLaws is its equation without a count
 unfoldable pub activities : List Activity → Reader (List Activity)

@@ -1,11 +1,12 @@
 -- Request #103: one judgement of any bytes as a plan, and what is judged under a plan.
 -- To be believed. Assumes nothing.
 use Prim.Native.Nat.{ℕ, zero, suc, _+_}
+use mathlib.Core.Bool.{cond}
 use mathlib.Core.Option.{Option}
 use mathlib.Core.List.{List, [], _∷_, _++_}
-use lib.Dec.{ltb}
+use lib.Dec.{ltb, eqb}
 use lib.ListN.{length}
-use Rattle.dossier.specs.Causes.{planNotOfForm}
+use Rattle.dossier.specs.Causes.{planNotOfForm, recordRepeated}
 use Rattle.dossier.specs.Marks.{PY, EN}
 use Rattle.dossier.specs.Plan.{PlanYear, Plan}
 use Rattle.dossier.specs.Reader.{Judged, refused, accepted, Reader, after, _>>=_, _>>_, give, mark, is, upon, ifAny, begin, field, within, nothing}
@@ -32,14 +33,17 @@ unfoldable pub planYears : (more least : ℕ) → List PlanYear → Reader Plan
 planYears zero least before = planEnd before
 planYears (suc more) least before = upon (is PY) (do p ← planYear least; planYears more (p .year + 1) (before ++ (p ∷ []))) (planEnd before)
 
--- whatever is wrong has this number
-abbrev pub renumbered : {A : Type 0} → ℕ → Judged A → Judged A
-renumbered n (refused m) = refused n
-renumbered n (accepted a rest) = accepted a rest
+-- "12 for a plan not of this form", whatever is wrong; 14 "in a plan too" (#105)
+abbrev pub planFault : ℕ → ℕ
+planFault n = cond (eqb n recordRepeated) recordRepeated planNotOfForm
 
--- "12 for a plan not of this form"
+-- what is refused, with another number
+abbrev pub renumbered : {A : Type 0} → (ℕ → ℕ) → Judged A → Judged A
+renumbered f (refused n) = refused (f n)
+renumbered f (accepted a rest) = accepted a rest
+
 unfoldable pub plan : Reader Plan
-plan s = renumbered planNotOfForm (planYears 20 0 [] s)
+plan s = renumbered planFault (planYears 20 0 [] s)
 
 -- "Zero bytes mean no plan"
 unfoldable pub lentPlan : Reader (Option Plan)

@@ -1,8 +1,10 @@
--- Document 01, "The dossier": each activity record as a row of one table. Its bytes, its mark and its judgement come from its row; its ranges are
+-- Document 01, "The dossier": each activity record as a row of one table. Its bytes, its mark, its judgement and what it equals come from its row; its ranges are
 -- those of the crate activity.
 -- To be believed. Assumes nothing.
 use Prim.Native.Nat.{ℕ, _/_}
+use mathlib.Core.Bool.{Bool, true, false, cond}
 use mathlib.Core.List.{List, [], _∷_, _++_}
+use lib.Dec.{eqb}
 use Rattle.activity.specs.declared.Activity.{Activity}
 use Rattle.activity.specs.declared.Activity.the-variants.{Fuel, Vehicles, Nitrogen, Lime}
 use Rattle.wire.specs.Bytes.{bytes}
@@ -50,8 +52,34 @@ inFields [] numbers = []
 abbrev pub filed : Layout → List ℕ → List ℕ
 filed l numbers = bytes 2 (l .mark) ++ inFields (l .widths) numbers
 
+-- the row of a record, and the number in each of its fields
+abbrev pub rowOf : Activity → Layout
+rowOf (Fuel kind grams) = fuel
+rowOf (Vehicles kind count average rate) = vehicles
+rowOf (Nitrogen source crop grams content) = nitrogen
+rowOf (Lime material grams) = lime
+
+abbrev pub numbersOf : Activity → List ℕ
+numbersOf (Fuel kind grams) = kind ∷ grams ∷ []
+numbersOf (Vehicles kind count average rate) = kind ∷ count ∷ average ∷ rate ∷ []
+numbersOf (Nitrogen source crop grams content) = source ∷ crop ∷ grams ∷ content ∷ []
+numbersOf (Lime material grams) = material ∷ grams ∷ []
+
 unfoldable pub activityBytes : Activity → List ℕ
-activityBytes (Fuel kind grams) = filed fuel (kind ∷ grams ∷ [])
-activityBytes (Vehicles kind count average rate) = filed vehicles (kind ∷ count ∷ average ∷ rate ∷ [])
-activityBytes (Nitrogen source crop grams content) = filed nitrogen (source ∷ crop ∷ grams ∷ content ∷ [])
-activityBytes (Lime material grams) = filed lime (material ∷ grams ∷ [])
+activityBytes a = filed (rowOf a) (numbersOf a)
+
+-- whether two lists have the same numbers
+abbrev pub alike : List ℕ → List ℕ → Bool
+alike [] [] = true
+alike [] (y ∷ ys) = false
+alike (x ∷ xs) [] = false
+alike (x ∷ xs) (y ∷ ys) = cond (eqb x y) (alike xs ys) false
+
+-- #105, "equal in mark and all fields"
+unfoldable pub same : Activity → Activity → Bool
+same a b = cond (eqb (rowOf a .mark) (rowOf b .mark)) (alike (numbersOf a) (numbersOf b)) false
+
+-- whether a record is none of these
+unfoldable pub fresh : List Activity → Activity → Bool
+fresh [] a = true
+fresh (b ∷ rest) a = cond (same a b) false (fresh rest a)

@@ -2,6 +2,7 @@ pub mod Causes
 pub mod Marks
 pub mod Layouts
 pub mod Plan
+pub mod Repeated
 pub mod Records
 pub mod Reader
 pub mod JudgingRecords

@@ -8,7 +8,7 @@ use mathlib.Core.List.{List, [], _∷_, map}
 use lib.Dec.{eqb}
 use lib.ListN.{length}
 use Rattle.activity.specs.declared.Activity.{Activity}
-use Rattle.activity.specs.Activity.{Within, ActivitiesInRange}
+use Rattle.activity.specs.Activity.{Within, RunInRange}
 use Rattle.wire.specs.Bytes.{bytes, joined}
 use Rattle.dossier.specs.Marks.{PY, EN}
 use Rattle.dossier.specs.Layouts.{activityBytes}
@@ -20,8 +20,7 @@ pub record PlanYear : Type 0 where
 
 pub record PlanYearInRange (least : ℕ) (p : PlanYear) : Type 0 where
   pub years : Within least (p .year) 65_535
-  pub count : length (p .activities) ≤ 60
-  pub activities : ActivitiesInRange (p .activities)
+  pub activities : RunInRange (p .activities)
 
 unfoldable pub planYearBytes : PlanYear → List ℕ
 planYearBytes p = joined (bytes 2 PY ∷ bytes 2 (p .year) ∷ joined (map activityBytes (p .activities)) ∷ [])

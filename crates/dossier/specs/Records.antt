@@ -14,7 +14,7 @@ use Rattle.classes.specs.Matrix.{RowsSum, optionOneMatrix}
 use Rattle.classes.specs.Calendar.{daysInYear}
 use Rattle.projection.specs.Projection.{openedRegion}
 use Rattle.activity.specs.declared.Activity.{Activity}
-use Rattle.activity.specs.Activity.{Within, ActivitiesInRange}
+use Rattle.activity.specs.Activity.{Within, RunInRange}
 use Rattle.figures.specs.declared.Terms.{Terms}
 use Rattle.figures.specs.declared.State.{State}
 use Rattle.figures.specs.Year.{Year}
@@ -176,9 +176,9 @@ pub record ConversionsInRange (sum : ℕ) (conversions : List ℕ) : Type 0 wher
 unfoldable pub conversionsBytes : ℕ → List ℕ → List ℕ
 conversionsBytes m conversions = joined (bytes 2 m ∷ bytesOfEach 8 conversions ∷ [])
 
--- a year's activity records: "0 to 60" of its own, or those that the plan has for the year (#103: "takes that year's records from the plan")
+-- a year's activity records: its own, or those that the plan has for the year (#103: "takes that year's records from the plan")
 abbrev pub RecordsInRange : (fromPlan : Option (List Activity)) (planned : Bool) → List Activity → Type 0
-RecordsInRange fromPlan false activities = (length activities ≤ 60) × ActivitiesInRange activities
+RecordsInRange fromPlan false activities = RunInRange activities
 RecordsInRange fromPlan true activities = fromPlan ≡ some activities
 
 -- #103, "a record PL (no fields) may stand instead of the activity records"

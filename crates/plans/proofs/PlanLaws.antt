@@ -1,7 +1,7 @@
 -- The years of the plan: where the loop stands, what one more year changes, and what each way out of the loop answers.
 -- Assumes nothing.
 use Prim.Native.Nat.{ℕ, suc, _+_, _-_, _≤_, _<_}
-use mathlib.Core.Path.{_≡_, refl, _∙_, sym}
+use mathlib.Core.Path.{_≡_, refl, _∙_, ap, sym}
 use mathlib.Core.Bool.{Bool, true, false, cond}
 use mathlib.Core.List.{List, [], _∷_, _++_}
 use native.Mathlib.Omega.{arith}
@@ -13,16 +13,16 @@ use Rattle.dossier.specs.Causes.{planNotOfForm}
 use Rattle.dossier.specs.Marks.{PY}
 use Rattle.dossier.specs.Plan.{PlanYear, Plan}
 use Rattle.dossier.specs.Reader.{Judged, refused, accepted, stands, is}
-use Rattle.dossier.specs.JudgingPlan.{planYear, planYears, renumbered, lentPlan}
+use Rattle.dossier.specs.JudgingPlan.{planYear, planYears, planFault, renumbered, lentPlan}
 use Rattle.dossier.proofs.PlanSteps.{year-read, year-refused, years-over, years-full, end-mark, lent-refused, lent-some}
 use Rattle.plans.specs.declared.PlanYearAnswer.{PlanYearAnswer}
 use Rattle.plans.specs.declared.PlanAnswer.{PlanAnswer}
 use Rattle.plans.specs.Answers.{YearAt, noYear, PlanYearRead, PlanYearSaid, PlanEndSaid, PlanSaid}
 
 -- ---- what was said of a year
-was-refused : (j : Judged PlanYear) (s : List ℕ) (at : ℕ) → PlanYearSaid j s at PlanYearAnswer.Refused → (n : ℕ) × (j ≡ refused n)
-was-refused (refused n) s at h = (n, refl)
-was-refused (accepted y rest) s at h = absurd h
+was-refused : (j : Judged PlanYear) (s : List ℕ) (at m : ℕ) → PlanYearSaid j s at (PlanYearAnswer.Refused m) → (n : ℕ) × (j ≡ refused n) × (m ≡ planFault n)
+was-refused (refused n) s at m h = (n, refl, h)
+was-refused (accepted y rest) s at m h = absurd h
 
 was-read : (j : Judged PlanYear) (s : List ℕ) (at year next : ℕ) → PlanYearSaid j s at (PlanYearAnswer.Read year next)
     → (y : PlanYear) × (rest : List ℕ) × (j ≡ accepted y rest) × PlanYearRead s at y rest year next
@@ -68,15 +68,15 @@ none-yet s places h e = record {
 }
 
 module _ {s places : List ℕ} {at count least : ℕ} (l : SoFar s places at count least) where
-  stopped : renumbered planNotOfForm (planYears (20 - count) least (l .years) (drop at s)) ≡ refused planNotOfForm → PlanSaid (lentPlan s) s places (PlanAnswer.Refused 12)
-  stopped e = rw (lent-refused s (l .lent) (rw (l .goesOn) e)) refl
+  stopped : (n : ℕ) → renumbered planFault (planYears (20 - count) least (l .years) (drop at s)) ≡ refused n → PlanSaid (lentPlan s) s places (PlanAnswer.Refused n)
+  stopped n e = rw (lent-refused s (l .lent) n (rw (l .goesOn) e)) refl
 
   -- b says whether PY stands at `at`
   module _ {b : Bool} (h : b ≡ stands (is PY) (drop at s)) where
     module _ (t : b ≡ true) where
       -- the 21st year
       pub full : count ≡ 20 → PlanSaid (lentPlan s) s places (PlanAnswer.Refused 12)
-      full k = stopped (rw (years-full least (l .years) (drop at s) (20 - count) (omega arith)) (end-mark (l .years) (drop at s) (sym h ∙ t)))
+      full k = stopped 12 (rw (years-full least (l .years) (drop at s) (20 - count) (omega arith)) (end-mark (l .years) (drop at s) (sym h ∙ t)))
 
       module _ (less : count ≡ 20 → ⊥) where
         one-less : 20 - count ≡ suc (20 - (count + 1))
@@ -84,10 +84,10 @@ module _ {s places : List ℕ} {at count least : ℕ} (l : SoFar s places at cou
 
         module _ {r : PlanYearAnswer} (says : PlanYearSaid (planYear least (drop at s)) s at r) where
           -- a year that is refused
-          pub faulty : r ≡ PlanYearAnswer.Refused → PlanSaid (lentPlan s) s places (PlanAnswer.Refused 12)
-          faulty q =
-              let (n, e) = was-refused (planYear least (drop at s)) s at (rw q at says) in
-              stopped (rw (year-refused least (l .years) (drop at s) _ _ one-less (sym h ∙ t) n e))
+          pub faulty : {m : ℕ} → r ≡ PlanYearAnswer.Refused m → PlanSaid (lentPlan s) s places (PlanAnswer.Refused m)
+          faulty {m} q =
+              let (n, e, f) = was-refused (planYear least (drop at s)) s at m (rw q at says) in
+              stopped m (ap (renumbered planFault) (year-refused least (l .years) (drop at s) _ _ one-less (sym h ∙ t) n e) ∙ ap (λ (k : ℕ). refused k) (sym f))
 
           -- a year that is read
           module _ {year next : ℕ} (q : r ≡ PlanYearAnswer.Read year next) where
@@ -113,11 +113,11 @@ module _ {s places : List ℕ} {at count least : ℕ} (l : SoFar s places at cou
 
     -- no PY: e says whether the plan ends here
     module _ (f : b ≡ false) (e : Bool) (k : PlanEndSaid (drop at s) e) where
-      over : renumbered planNotOfForm (planYears 20 0 [] s) ≡ cond e (accepted (l .years) []) (refused planNotOfForm)
+      over : renumbered planFault (planYears 20 0 [] s) ≡ cond e (accepted (l .years) []) (refused planNotOfForm)
       over = rw (l .goesOn, years-over least (l .years) (drop at s) (20 - count) (sym h ∙ f)) (k (l .years))
 
       pub unended : e ≡ false → PlanSaid (lentPlan s) s places (PlanAnswer.Refused 12)
-      unended z = rw (lent-refused s (l .lent) (rw z at over)) refl
+      unended z = rw (lent-refused s (l .lent) 12 (rw z at over)) refl
 
       pub ended : e ≡ true → PlanSaid (lentPlan s) s places (PlanAnswer.Read count)
       ended z = rw (lent-some s (l .lent) (l .years) [] (rw z at over)) (record { few = l .few; counted = l .counted; each = l .each })

@@ -12,7 +12,7 @@ use Rattle.dossier.specs.Plan.{PlanYear, Plan, recordsFor}
 use Rattle.dossier.specs.Reader.{Judged, refused, accepted}
 use Rattle.dossier.specs.Causes.{planNotOfForm}
 use Rattle.dossier.specs.Judging.{activities}
-use Rattle.dossier.specs.JudgingPlan.{planEnd, renumbered}
+use Rattle.dossier.specs.JudgingPlan.{planEnd, planFault, renumbered}
 use Rattle.plans.specs.declared.PlanYearAnswer.{PlanYearAnswer}
 use Rattle.plans.specs.declared.PlanAnswer.{PlanAnswer}
 use Rattle.plans.specs.declared.Found.{Found}
@@ -44,13 +44,13 @@ pub record PlanYearRead (s : List ℕ) (at : ℕ) (y : PlanYear) (rest : List �
 
 abbrev pub PlanYearSaid : Judged PlanYear → (s : List ℕ) (at : ℕ) → PlanYearAnswer → Type 0
 PlanYearSaid (accepted y rest) s at (PlanYearAnswer.Read year next) = PlanYearRead s at y rest year next
-PlanYearSaid (accepted y rest) s at PlanYearAnswer.Refused = ⊥
+PlanYearSaid (accepted y rest) s at (PlanYearAnswer.Refused n) = ⊥
 PlanYearSaid (refused m) s at (PlanYearAnswer.Read year next) = ⊥
-PlanYearSaid (refused m) s at PlanYearAnswer.Refused = Unit {0}
+PlanYearSaid (refused m) s at (PlanYearAnswer.Refused n) = n ≡ planFault m
 
 -- ---- the end: whether a plan of any years ends with these bytes
 abbrev pub PlanEndSaid : List ℕ → Bool → Type 0
-PlanEndSaid s there = (years : Plan) → renumbered planNotOfForm (planEnd years s) ≡ cond there (accepted years []) (refused planNotOfForm)
+PlanEndSaid s there = (years : Plan) → renumbered planFault (planEnd years s) ≡ cond there (accepted years []) (refused planNotOfForm)
 
 -- ---- the plan
 abbrev pub IndexedIfAny : (s places : List ℕ) (count : ℕ) → Option Plan → Type 0

@@ -2,7 +2,7 @@
 ghost use mathlib.Core.Path.{_≡_};
 ghost use Prim.Native.Nat.{_≤_, _<_};
 ghost use lib.ListN.{length, drop};
-ghost use Rattle.dossier.specs.JudgingPlan.{planYear, lentPlan};
+ghost use Rattle.dossier.specs.JudgingPlan.{planYear, planFault, lentPlan};
 ghost use Rattle.plans.specs.declared.PlanAnswer.{PlanAnswer as Answer};
 ghost use Rattle.plans.specs.Answers.{PlanYearSaid, PlanEndSaid, PlanSaid, FoundIn};
 
@@ -12,7 +12,7 @@ const EN: u64 = 0x454e;
 
 enum PlanYearAnswer {
     Read { year: u64, next: usize },
-    Refused,
+    Refused(u8),
 }
 
 // How many years the plan has, or the number of the refusal.
@@ -27,21 +27,31 @@ pub struct Found {
     pub from: usize,
 }
 
+// The number of a fault in a plan: 14 for two equal records, 12 for any other.
+fn plan_fault(n: u8) -> u8
+    ensures { λ r. ⌜ r ≡ planFault n ⌝ }
+{
+    if n == 14 {
+        return 14;
+    }
+    12
+}
+
 // A year of the plan from a place on: PY, its year, which is least or later, and its records.
 fn read_plan_year(plan: &[u8], at: usize, least: u64) -> PlanYearAnswer
     requires { ⌜ at ≤ length (now plan) ⌝ }
     ensures { λ r. ⌜ PlanYearSaid (planYear least (drop at (now (plan .entry)))) (now (plan .entry)) at r ⌝ }
 {
     if cursor::begun(plan, at, PY, 2) != 0 {
-        return PlanYearAnswer::Refused;
+        return PlanYearAnswer::Refused(12);
     }
     let year = wire::field16(plan, at + 2);
     if year < least {
-        return PlanYearAnswer::Refused;
+        return PlanYearAnswer::Refused(12);
     }
     let from = at + 4;
     match activities::read_run(&plan[from..]) {
-        activities::RunAnswer::Refused(_) => PlanYearAnswer::Refused,
+        activities::RunAnswer::Refused(n) => PlanYearAnswer::Refused(plan_fault(n)),
         activities::RunAnswer::Read { next, .. } => PlanYearAnswer::Read {
             year,
             next: from + next,
@@ -79,8 +89,8 @@ fn read_years(plan: &[u8], places: &mut [usize; 20]) -> PlanAnswer
                 least = year + 1;
                 at = next;
             }
-            PlanYearAnswer::Refused => {
-                return PlanAnswer::Refused(12);
+            PlanYearAnswer::Refused(n) => {
+                return PlanAnswer::Refused(n);
             }
         }
         count += 1;

@@ -18,7 +18,7 @@ use Rattle.wire.specs.Bytes.{number, bytes, numbers, bytesOfEach, joined, total
 use Rattle.wire.specs.Signed.{twosComplement, figureBytes, figuresBytes, written, signed, figureAt}
 use Rattle.dossier.specs.Records.{headBytes, areasBytes, bytesIfAny, openingBytes, termsOf, stateOf, firstDue, next, conversionsBytes, recordsBytes, yearBytes, dossierBytes}
 use Rattle.dossier.specs.Plan.{recordsFor}
-use Rattle.dossier.specs.Layouts.{activityBytes}
+use Rattle.dossier.specs.Layouts.{activityBytes, fresh}
 use Rattle.dossier.specs.Reader.{_>>=_, _>>_, give, mark, stands, upon, ifAny, present, begin, field, fields, outside, within, equal, holds, nothing}
 use Rattle.dossier.specs.JudgingRecords.{head, stocksIfAny, areas, matrixUnder, conversions, inRange, fieldsOf, activityMark, activityUnder, activity}
 use Rattle.dossier.specs.Judging.{opening, run, activities, fromThePlan, taken, yearRecords, yearLeft, year, end, years, dossier}
@@ -36,7 +36,7 @@ unfolding examples caseA bufferA threeUnits
     -- its bytes, and their judgement
     bytes bytesOfEach joined headBytes areasBytes bytesIfAny openingBytes conversionsBytes activityBytes yearBytes dossierBytes
     number numbers total _>>=_ _>>_ give mark stands upon ifAny present begin field fields outside within equal nothing
-    head stocksIfAny areas matrixUnder conversions inRange fieldsOf activityMark activityUnder activity
+    head stocksIfAny areas matrixUnder conversions inRange fieldsOf activityMark activityUnder activity fresh
     opening run activities fromThePlan taken yearRecords yearLeft year end years dossier lentPlan under holds recordsFor recordsBytes
     -- classes, projection, activity records, figures
     sum listed ceilDiv carbonStocks deforestationProbabilities emissionFactor optionOne optionOneMatrix daysInYear

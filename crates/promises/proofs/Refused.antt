@@ -2,7 +2,7 @@
 -- Assumes nothing.
 use Prim.Native.Nat.{ℕ, _+_, _*_, _≤_}
 use mathlib.Core.Path.{_≡_, refl, _∙_, ap, sym}
-use mathlib.Core.Logic.{_↔_, inl, inr}
+use mathlib.Core.Logic.{inl, inr}
 use mathlib.Core.Option.{Option, none}
 use mathlib.Core.List.{List, []}
 use native.Mathlib.Omega.{arith}
@@ -11,9 +11,10 @@ use lib.Dec.{lit<}
 use lib.ListN.{length, replicate}
 use Rattle.wire.specs.Bytes.{Bytes}
 use Rattle.figures.specs.Year.{Year}
-use Rattle.dossier.specs.Causes.{planNotOfForm, yearCauses, closingCauses, ZeroOr}
+use Rattle.dossier.specs.Causes.{planNotOfForm, recordRepeated, planCauses, yearCauses, closingCauses, _∈_, ZeroOr}
 use Rattle.dossier.specs.Plan.{Plan}
 use Rattle.dossier.specs.Records.{Opening, Dossier, bytesIfAny}
+use Rattle.dossier.specs.Repeated.{PlanRepeats}
 use Rattle.dossier.specs.Reader.{Judged, refused, accepted, Reader}
 use Rattle.dossier.specs.Judging.{dossier, openingPiece, yearPiece}
 use Rattle.dossier.specs.JudgingPlan.{lentPlan, under}
@@ -21,6 +22,7 @@ use Rattle.dossier.proofs.CauseLaws.{dossierCauses}
 use Rattle.dossier.proofs.Causes.{yearPiece-causes, dossier-causes}
 use Rattle.dossier.proofs.WellFormed.{dossier-accepted, plan-accepted}
 use Rattle.dossier.proofs.PlanLaws.{lentPlan-refused}
+use Rattle.dossier.proofs.PlanRepeated.{repeats-lent}
 use Rattle.dossier.proofs.UnderLaws.{under-refused, under-none, no-plan}
 use Rattle.reckoner.specs.declared.Ledger.{Ledger}
 use Rattle.reckoner.specs.declared.Answer.{Answer}
@@ -30,7 +32,7 @@ use Rattle.reckoner.proofs.CloseLaws.{close-zero}
 use Rattle.reckoner.proofs.Numbers.{number-refused, number-accepted, number-zero, open-numbers, year-numbers, close-numbers, reckon-numbers}
 use Rattle.sheet.specs.Sheet.{refusalOf}
 use Rattle.printout.specs.Printout.{printed, printout}
-use Rattle.promises.specs.Refusals.{NotOfForm, RefusalsLeave}
+use Rattle.promises.specs.Refusals.{NotOfForm, ByPlan, RefusalsLeave}
 
 open-refused : (piece : List ℕ) → (answerNumber (openCall piece .answer) ≡ 0 → ⊥) → openCall piece .ledger ≡ emptyLedger
 unfolding openCall
@@ -63,17 +65,35 @@ reckon-refused s plan buffer = go (dossierCall s plan .answer) (dossierCall s pl
     go Answer.Accepted l h = close-refused l buffer h
     go (Answer.Refused n) l h = refl
 
--- ---- 12 just where the bytes are no plan, before anything else is judged
-not-of-form : (plan : List ℕ) → Bytes plan → NotOfForm plan → lentPlan plan ≡ refused planNotOfForm
-not-of-form plan b f = go (lentPlan plan) refl
+-- ---- the plan's own number, before anything else is judged: 14 just where it repeats a record first, 12 for any other that is no plan
+not-of-form : (plan : List ℕ) → Bytes plan → NotOfForm plan → (PlanRepeats plan → ⊥) → lentPlan plan ≡ refused planNotOfForm
+not-of-form plan b f g = go (lentPlan plan) refl
   where
+    fault : (n : ℕ) → lentPlan plan ≡ refused n → n ∈ planCauses → n ≡ planNotOfForm
+    fault n e (inl c) = c
+    fault n e (inr (inl c)) = absurd (g (repeats-lent plan b .0 (e ∙ ap (λ (k : ℕ). refused k) c)))
+    fault n e (inr (inr c)) = absurd c
+
     go : (j : Judged (Option Plan)) → lentPlan plan ≡ j → j ≡ refused planNotOfForm
-    go (refused n) e = ap (λ (k : ℕ). refused k) (lentPlan-refused plan n e)
+    go (refused n) e = ap (λ (k : ℕ). refused k) (fault n e (lentPlan-refused plan n e))
     go (accepted p rest) e = let w = plan-accepted .sound plan b p rest e in absurd (f p (w .0, w .1))
 
-year-plan : (l : Ledger) (piece plan : List ℕ) → Bytes plan → (answerNumber (yearCall l piece plan .answer) ≡ planNotOfForm) ↔ NotOfForm plan
+-- the number of a call that is the plan's where the plan is refused, and is 12 for no other reason
+by-plan : (n : ℕ) (plan : List ℕ) → Bytes plan → ((m : ℕ) → lentPlan plan ≡ refused m → n ≡ m) → (n ≡ planNotOfForm → NotOfForm plan) → ByPlan n plan
+by-plan n plan b first only = record {
+  unfit = (λ z. (only z, λ r. other z (repeated r)), λ (f, g). first planNotOfForm (not-of-form plan b f g));
+  repeats = repeated;
+}
+  where
+    repeated : PlanRepeats plan → n ≡ recordRepeated
+    repeated r = first recordRepeated (repeats-lent plan b .1 r)
+
+    other : n ≡ planNotOfForm → n ≡ recordRepeated → ⊥
+    other z y = let c : _≡_ {A = ℕ} 12 14 = sym z ∙ y in omega arith
+
+year-plan : (l : Ledger) (piece plan : List ℕ) → Bytes plan → ByPlan (answerNumber (yearCall l piece plan .answer)) plan
 unfolding yearCall
-year-plan l piece plan b = (go (under plan judge piece) refl, λ f. rw (under-refused judge piece plan planNotOfForm (not-of-form plan b f)))
+year-plan l piece plan b = by-plan _ plan b (λ m e. rw (under-refused judge piece plan m e)) (go (under plan judge piece) refl)
   where
     judge : Option Plan → Reader Year
     judge p = yearPiece (dueOf p l)
@@ -82,8 +102,8 @@ year-plan l piece plan b = (go (under plan judge piece) refl, λ f. rw (under-re
     go (refused n) e z = under-none judge yearCauses tt (λ p. yearPiece-causes (dueOf p l)) plan piece (e ∙ ap (λ (k : ℕ). refused k) z)
     go (accepted y rest) e z = let c : _≡_ {A = ℕ} 0 12 = z in absurd (omega arith)
 
-reckoning-plan : (s plan : List ℕ) (size : ℕ) → Bytes plan → (reckonNumber s plan size ≡ planNotOfForm) ↔ NotOfForm plan
-reckoning-plan s plan size b = (go (under plan dossier s) refl, λ f. number-refused s plan size _ (under-refused dossier s plan _ (not-of-form plan b f)))
+reckoning-plan : (s plan : List ℕ) (size : ℕ) → Bytes plan → ByPlan (reckonNumber s plan size) plan
+reckoning-plan s plan size b = by-plan _ plan b (λ m e. number-refused s plan size m (under-refused dossier s plan m e)) (go (under plan dossier s) refl)
   where
     closed : {n : ℕ} → ZeroOr closingCauses n → n ≡ planNotOfForm → ⊥
     closed (inl e) z = let c : _≡_ {A = ℕ} 0 12 = sym e ∙ z in omega arith

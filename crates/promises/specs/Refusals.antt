@@ -7,9 +7,10 @@ use mathlib.Core.Option.{Option}
 use mathlib.Core.Logic.{_↔_}
 use mathlib.Core.List.{List, [], _∷_}
 use lib.ListN.{length}
-use Rattle.dossier.specs.Causes.{planNotOfForm, causes, openingCauses, yearCauses, closingCauses, ZeroOr}
+use Rattle.dossier.specs.Causes.{planNotOfForm, recordRepeated, causes, openingCauses, yearCauses, closingCauses, ZeroOr}
 use Rattle.dossier.specs.Plan.{Plan}
 use Rattle.dossier.specs.Records.{WellFormedPlan}
+use Rattle.dossier.specs.Repeated.{PlanRepeats}
 use Rattle.wire.specs.Bytes.{Bytes}
 use Rattle.reckoner.specs.declared.Ledger.{Ledger}
 use Rattle.reckoner.specs.Ledger.{emptyLedger}
@@ -21,8 +22,13 @@ use Rattle.printout.specs.Printout.{printout}
 abbrev pub NotOfForm : List ℕ → Type 0
 NotOfForm plan = (p : Option Plan) → WellFormedPlan p plan → ⊥
 
--- of any bytes, any plan, any ledger and any buffer; 12 by the plan alone, "judged before dossier or piece" (#103), whatever these, the ledger and the
--- buffer are; `yearsheet` lends no plan and a buffer for 20 years, 1,312 bytes, and prints of refused bytes the number alone
+-- the number n of a call by a plan: 12 just for such a plan that does not repeat a record first, 14 for one that does
+pub record ByPlan (n : ℕ) (plan : List ℕ) : Type 0 where
+  pub unfit : (n ≡ planNotOfForm) ↔ (NotOfForm plan × (PlanRepeats plan → ⊥))
+  pub repeats : PlanRepeats plan → n ≡ recordRepeated
+
+-- of any bytes, any plan, any ledger and any buffer; a plan's own number by the plan alone, "judged before dossier or piece" (#103), whatever these, the
+-- ledger and the buffer are: 14 where its first fault is a record that equals an earlier one of its year (#105), 12 for any other fault; `yearsheet` lends no plan and a buffer for 20 years, 1,312 bytes, and prints of refused bytes the number alone
 pub record RefusalsLeave : Type 0 where
   pub opening : (piece : List ℕ) → (answerNumber (openCall piece .answer) ≡ 0 → ⊥) → openCall piece .ledger ≡ emptyLedger
   pub year : (l : Ledger) (piece plan : List ℕ) → (answerNumber (yearCall l piece plan .answer) ≡ 0 → ⊥) → yearCall l piece plan .ledger ≡ l
@@ -33,6 +39,6 @@ pub record RefusalsLeave : Type 0 where
   pub yearNumber : (l : Ledger) (piece plan : List ℕ) → ZeroOr (planNotOfForm ∷ yearCauses) (answerNumber (yearCall l piece plan .answer))
   pub closingNumber : (l : Ledger) (size : ℕ) → ZeroOr closingCauses (closeSays l size .number)
   pub reckoningNumber : (s plan : List ℕ) (size : ℕ) → ZeroOr causes (reckonNumber s plan size)
-  pub yearPlan : (l : Ledger) (piece plan : List ℕ) → Bytes plan → (answerNumber (yearCall l piece plan .answer) ≡ planNotOfForm) ↔ NotOfForm plan
-  pub reckoningPlan : (s plan : List ℕ) (size : ℕ) → Bytes plan → (reckonNumber s plan size ≡ planNotOfForm) ↔ NotOfForm plan
+  pub yearPlan : (l : Ledger) (piece plan : List ℕ) → Bytes plan → ByPlan (answerNumber (yearCall l piece plan .answer)) plan
+  pub reckoningPlan : (s plan : List ℕ) (size : ℕ) → Bytes plan → ByPlan (reckonNumber s plan size) plan
   pub printing : (s : List ℕ) → Bytes s → (reckonNumber s [] 1312 ≡ 0 → ⊥) → printout s ≡ refusalOf (reckonNumber s [] 1312)

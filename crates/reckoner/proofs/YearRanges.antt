@@ -47,6 +47,6 @@ module _ (t : Terms) (stocks : (i : ℕ) → getD (t .stocks) i 0 ≤ greatestSt
       figures-small _ _ _ _ _
       (reference-range project p)
       (table-range (due .terms .start .0) (y .conversions) (settled .start) (h .conversions))
-      (omega (arith, taken .0, emissions-le (y .activities) (taken .1)))
+      (omega (arith, taken .count, emissions-le (y .activities) (taken .each)))
       (table-range (due .terms .beltstart .0) (y .beltConversions) (settled .beltstart) (h .beltConversions))
       (reference-range belt b)

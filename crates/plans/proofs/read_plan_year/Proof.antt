@@ -16,9 +16,15 @@ use Rattle.plans.proofs.YearLaws.{no-year, too-early, records-no, recor
 use Rattle.plans.proofs.read_plan_year.Statement.{statement}
 use Rattle.plans.proofs.read_plan_year.Tie as tie
 
--- the places: the records read, from where their answer is taken apart; the year tested; the year read; mark and length tested; the start
+-- the places: the records read, from where their answer is taken apart; their refusal; the year tested; the year read; mark and length tested; the start
 abbrev at-run : tie.After-next → tie.After-read-run
 at-run c = c .before .before
+
+abbrev at-refused : tie.After-plan-fault → tie.After-n
+at-refused c = c .before .before
+
+abbrev at-ran : tie.After-n → tie.After-read-run
+at-ran c = c .before .before
 
 abbrev at-due : tie.After-read-run → tie.Else2
 at-due c = c .before .before
@@ -88,25 +94,29 @@ part-read-run-end c = search needs
 read-run-requires : tie.Need-read-run-requires
 read-run-requires c κs = search needs
 
-enum-told : tie.Need-enum-told
-enum-told c = search needs
+enum-known-n : tie.Need-enum-known-n
+enum-known-n c = search needs
+
+plan-fault-requires : tie.Need-plan-fault-requires
+plan-fault-requires c κs = search needs
 
 enum-known-next : tie.Need-enum-known-next
 enum-known-next c = search needs
 
-add-t15 : tie.Need-add-t15
-add-t15 c = omega (arith, read (c .before) .1)
+add-t17 : tie.Need-add-t17
+add-t17 c = omega (arith, read (c .before) .1)
 
 returns-3 : tie.Need-returns-3
 returns-3 c =
-    let ran = c .before .before in
+    let at-fault = at-refused c in
+    let ran = at-ran at-fault in
     let due = at-due ran in
     let field = due .before in
     let begun = at-begun field in
     let a = at-start begun .args in
     let (year, small) = field .field16 .ensures in
-    let no = told (runSays _) (runInside _) (c .enum-told .given .1) (run ran) .0 in
-    records-no (a .least) (a .plan .now) (a .at) _ (begun .begun .ensures .0) (field .before .if1 .left) _ year small (due .if2 .left) _ no
+    let no = told (runSays _) (runInside _) (at-fault .n .given .1) (run ran) .0 in
+    records-no (a .least) (a .plan .now) (a .at) _ (begun .begun .ensures .0) (field .before .if1 .left) _ year small (due .if2 .left) _ _ no (c .plan-fault .ensures)
 
 returns-4 : tie.Need-returns-4
 returns-4 c =
@@ -133,8 +143,9 @@ read-plan-year-spec =
     part-read-run-start
     part-read-run-end
     read-run-requires
-    enum-told
+    enum-known-n
+    plan-fault-requires
     enum-known-next
-    add-t15
+    add-t17
     returns-3
     returns-4)

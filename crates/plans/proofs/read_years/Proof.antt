@@ -14,9 +14,12 @@ Inv-loop plan places₀ at₀ count₀ least₀ places at count least = SoFar pl
 abbrev μ-loop : tie.MeasureT-loop
 μ-loop plan places₀ at₀ count₀ least₀ places at count least = 20 - count
 
--- the places: a year read, from where its answer is taken apart; PY found
+-- the places: a year read, from where its answer is taken apart; one refused; PY found
 abbrev at-read : tie.After-year Inv-loop μ-loop → tie.After-read-plan-year Inv-loop μ-loop
 at-read c = c .before .before
+
+abbrev at-refused : tie.After-n Inv-loop μ-loop → tie.After-read-plan-year Inv-loop μ-loop
+at-refused c = c .before .before
 
 abbrev at-mark : tie.After-read-plan-year Inv-loop μ-loop → tie.Then1 Inv-loop μ-loop
 at-mark c = c .before .before
@@ -57,15 +60,16 @@ add-least c =
     let small = small-year (stood .before .loop .inv) (stood .stands .ensures) (mark .if1 .taken) (read .before .if2 .left) (read .read-plan-year .ensures) (answered .year .given .1) in
     omega arith
 
-enum-told : tie.Need-enum-told Inv-loop μ-loop
-enum-told c = search needs
+enum-known-n : tie.Need-enum-known-n Inv-loop μ-loop
+enum-known-n c = search needs
 
 returns-2 : tie.Need-returns-2 Inv-loop μ-loop
 returns-2 c =
-    let read = c .before .before in
+    let fault = c .before in
+    let read = at-refused fault in
     let mark = at-mark read in
     let stood = mark .before in
-    faulty (stood .before .loop .inv) (stood .stands .ensures) (mark .if1 .taken) (read .before .if2 .left) (read .read-plan-year .ensures) (c .enum-told .given .1)
+    faulty (stood .before .loop .inv) (stood .stands .ensures) (mark .if1 .taken) (read .before .if2 .left) (read .read-plan-year .ensures) (fault .n .given .1)
 
 add-count : tie.Need-add-count Inv-loop μ-loop
 add-count c = search needs
@@ -111,7 +115,7 @@ read-years-spec =
     mul-places
     element-write-places
     add-least
-    enum-told
+    enum-known-n
     returns-2
     add-count
     loop-less

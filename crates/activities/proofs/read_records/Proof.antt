@@ -1,0 +1,100 @@
+-- `activities::read_records` meets its contract: its loop keeps the records read so far with their keys, and each way out answers for them.
+-- Assumes nothing.
+use Prim.Native.Nat.{_-_}
+use borrow.Author.Needs.{needs}
+use Rattle.activities.proofs.RunLaws.{SoFar, none-yet, running}
+use Rattle.activities.proofs.read_records.Statement.{statement}
+use Rattle.activities.proofs.read_records.Tie as tie
+
+abbrev Inv-loop : tie.InvT-loop
+Inv-loop part keys₀ at₀ grams₀ count₀ keys at grams count = SoFar part keys at grams count
+
+abbrev μ-loop : tie.MeasureT-loop
+μ-loop part keys₀ at₀ grams₀ count₀ keys at grams count = 60 - count
+
+loop-holds : tie.Need-loop-holds Inv-loop μ-loop
+loop-holds c = search (needs, none-yet)
+
+sub-loop : tie.Need-sub-loop Inv-loop μ-loop
+sub-loop c = search needs
+
+field16-requires : tie.Need-field16-requires Inv-loop μ-loop
+field16-requires c κs = search needs
+
+is-activity-requires : tie.Need-is-activity-requires Inv-loop μ-loop
+is-activity-requires c κs = search needs
+
+returns : tie.Need-returns Inv-loop μ-loop
+returns c = search (needs, running)
+
+returns-2 : tie.Need-returns-2 Inv-loop μ-loop
+returns-2 c = search (needs, running)
+
+add-read-activity : tie.Need-add-read-activity Inv-loop μ-loop
+add-read-activity c = search needs
+
+read-activity-requires : tie.Need-read-activity-requires Inv-loop μ-loop
+read-activity-requires c κs = search needs
+
+enum-known-activity : tie.Need-enum-known-activity Inv-loop μ-loop
+enum-known-activity c = search needs
+
+key-requires : tie.Need-key-requires Inv-loop μ-loop
+key-requires c κs = search (needs, running)
+
+mul-keys : tie.Need-mul-keys Inv-loop μ-loop
+mul-keys c = search needs
+
+element-write-keys : tie.Need-element-write-keys Inv-loop μ-loop
+element-write-keys c = search needs
+
+emissions-requires : tie.Need-emissions-requires Inv-loop μ-loop
+emissions-requires c κs = search (needs, running)
+
+plus-requires : tie.Need-plus-requires Inv-loop μ-loop
+plus-requires c κs = search (needs, running)
+
+enum-known-n : tie.Need-enum-known-n Inv-loop μ-loop
+enum-known-n c = search needs
+
+returns-3 : tie.Need-returns-3 Inv-loop μ-loop
+returns-3 c = search (needs, running)
+
+add-count : tie.Need-add-count Inv-loop μ-loop
+add-count c = search needs
+
+loop-less : tie.Need-loop-less Inv-loop μ-loop
+loop-less c = search needs
+
+loop-again : tie.Need-loop-again Inv-loop μ-loop
+loop-again c = search (needs, running)
+
+returns-4 : tie.Need-returns-4 Inv-loop μ-loop
+returns-4 c = search (needs, running)
+
+pub read-records-spec : {M : Type 1} → statement M
+read-records-spec =
+    tie.close
+    (tie.spec
+    Inv-loop
+    μ-loop
+    loop-holds
+    sub-loop
+    field16-requires
+    is-activity-requires
+    returns
+    returns-2
+    add-read-activity
+    read-activity-requires
+    enum-known-activity
+    key-requires
+    mul-keys
+    element-write-keys
+    emissions-requires
+    plus-requires
+    enum-known-n
+    returns-3
+    add-count
+    loop-less
+    loop-again
+    returns-4)
