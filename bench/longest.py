@@ -4,6 +4,7 @@
     python3 bench/longest.py worst                        prints one as long, in which each year's records have one slot of the proved
                                                           reckoner's filter for equal records: what costs that filter most
     python3 bench/longest.py planned DOSSIER PLAN OWN     writes one of planned years, its plan, and the same with the records in it
+    python3 bench/longest.py worst-plan                   prints another plan for it, with such records
 """
 import pathlib
 import struct
@@ -18,6 +19,8 @@ ROW = [83333] * 11 + [83337]
 TABLE = [a // 12 for a in AREAS for _ in range(12)]
 TABLE[0] += sum(AREAS) - sum(TABLE)
 YEARS = range(2000, 2020)
+# Grams of fuel per hour: as much as there can be, and so little that the emissions are small enough for a plan.
+MUCH, LITTLE = 100000, 1000
 
 
 def words(code, values):
@@ -42,8 +45,7 @@ def plan(records):
 
 
 def write_planned(*paths):
-    """The vehicles use so little fuel that their emissions are small enough for a plan."""
-    little = vehicles(1000)
+    little = vehicles(LITTLE)
     for path, data in zip(paths, (dossier(b"PL"), plan(little), dossier(little))):
         pathlib.Path(path).write_bytes(data)
 
@@ -51,8 +53,10 @@ def write_planned(*paths):
 if sys.argv[1:2] == ["planned"] and len(sys.argv) == 5:
     write_planned(*sys.argv[2:])
 elif sys.argv[1:] == ["worst"]:
-    sys.stdout.buffer.write(dossier(encode(of_one_slot(60))))
+    sys.stdout.buffer.write(dossier(encode(of_one_slot(60, MUCH))))
+elif sys.argv[1:] == ["worst-plan"]:
+    sys.stdout.buffer.write(plan(encode(of_one_slot(60, LITTLE))))
 elif sys.argv[1:]:
     sys.exit(__doc__)
 else:
-    sys.stdout.buffer.write(dossier(vehicles(100000)))
+    sys.stdout.buffer.write(dossier(vehicles(MUCH)))

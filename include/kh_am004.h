@@ -92,8 +92,8 @@ static inline const char *kh_am004_text(uint32_t number)
 /*
  * Reckons a dossier, its PL years by the records that the plan has for them; plan_len 0 is no plan. 0: the report stands
  * at the start of result, and the bytes beyond it are as they were. Otherwise the number of the refusal, and every byte
- * of result is as it was. The plan is judged before the dossier, whether or not it is used: any fault of it is 12, save
- * that two equal records of a planned year are 14, as they are in a year of the dossier.
+ * of result is as it was. The plan is judged before the dossier, whether or not it is used, and its first fault counts:
+ * 14 for two equal records of a planned year, as in a year of the dossier, 12 for any other.
  *
  * The caller owes valid pointers: dossier to dossier_len bytes and plan to plan_len bytes that can be read and may
  * overlap, result to result_len bytes that can be written, and it must not overlap the other two. A pointer may be null

@@ -699,8 +699,8 @@ static void compare_times(void)
         plain = b < plain ? b : plain;
     }
     printf("the longest dossier, on a stack of 64 KiB: accepted; best time, proved %.1f us, plain C %.1f us\n", 5e4 * proved, 5e4 * plain);
-    if (proved > plain)
-        fail("the time comparison fails: the proved reckoner takes longer than plain C");
+    if (4 * proved > plain) /* plain C compares each record with all before it, byte by byte */
+        fail("the time comparison fails: the proved reckoner takes more than a quarter of the time of plain C");
 }
 
 static void compare_bytes(void)

@@ -264,15 +264,14 @@ def other_plan(rng, listed):
 # Different records that a filter takes for equal ones
 
 def slot(kind, count, average, rate):
-    """The slot of a VE among the 1,024 of the filter by which the proved reckoner looks for equal records (#105)."""
-    key = (((rate * 2**20 + average) * 2**10 + count) * 4 + kind) * 4 + 1
-    return (key % 2**32 + key // 2**32) * 1640531527 // 2**22 % 1024
+    """The slot of a VE among the 1,021 of the filter by which the proved reckoner looks for equal records (#105)."""
+    return ((((rate * 2**20 + average) * 2**10 + count) * 4 + kind) * 4 + 1) % 1021
 
 
-def of_one_slot(count):
-    """So many VE, no two of them equal, that all have the same slot."""
-    fields = ([1, n, average, 100000] for n in range(1000, 0, -1) for average in range(10000, 0, -1))
-    found = (("VE", given) for given in fields if slot(*given) == slot(1, 1000, 10000, 100000))
+def of_one_slot(count, rate=100000):
+    """So many VE of this rate, no two of them equal, that all have the same slot."""
+    fields = ([1, n, average, rate] for n in range(1000, 0, -1) for average in range(10000, 0, -1))
+    found = (("VE", given) for given in fields if slot(*given) == slot(1, 1000, 10000, rate))
     return list(itertools.islice(found, count))
 
 

@@ -1282,6 +1282,15 @@ def cut_up(data):
     return [whole[a:b] for a, b in zip(starts, [*starts[1:], len(whole)])]
 
 
+def plan_number(lent_plan):
+    """The number of a plan by itself."""
+    try:
+        reckoner.read_plan(lent_plan)
+    except reckoner.Refused as refused:
+        return refused.number
+    return 0
+
+
 def paths():
     """The pieces of each dossier that are accepted, and the first one that is refused with its number, if one is; years with the plan lent."""
     for label, due, data, lent_plan, _, _ in (vector for section in VECTORS for vector in section()):
@@ -1290,8 +1299,7 @@ def paths():
             step = (piece, lent_plan) if taken else (piece, None)
             number = ledger.year(*step) if taken else ledger.open(piece)
             if number:
-                require(number == due or due in (12, 14) and lent_plan and not taken,
-                        f"{label}: a piece of it is answered {number} where {due} is due")
+                require(number == due or not taken and plan_number(lent_plan) == due, f"{label}: a piece of it is answered {number} where {due} is due")
                 yield taken, (number, step)
                 break
             taken.append(step)

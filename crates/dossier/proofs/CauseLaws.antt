@@ -7,7 +7,7 @@ use mathlib.Core.Logic.{inl, inr}
 use mathlib.Core.List.{List, [], _∷_, _++_}
 use borrow.Author.Tests.{eq-eqb}
 use lib.Dec.{T, eqb, eqb→eq, ltb, ltb→lt}
-use Rattle.dossier.specs.Causes.{planNotOfForm, causes, openingCauses, yearCauses, _∈_}
+use Rattle.dossier.specs.Causes.{planNotOfForm, recordRepeated, causes, openingCauses, yearCauses, _∈_}
 
 -- whether n is one of these
 abbrev pub member : ℕ → List ℕ → Bool
@@ -54,7 +54,11 @@ without n l = each (λ m. cond (eqb m n) false true) l
 pub not-listed : (n : ℕ) (l : List ℕ) → T (without n l) → n ∈ l → ⊥
 not-listed n l t h = rw (eq-eqb n n refl) at (passes (λ m. cond (eqb m n) false true) l t n h)
 
--- ---- the causes of a dossier: those of its opening and of its years, which are all of the table but the plan's and the buffer's
+-- ---- the causes of a plan
+abbrev pub planCauses : List ℕ
+planCauses = planNotOfForm ∷ recordRepeated ∷ []
+
+-- ---- the causes of a dossier: those of its opening and of its years, which are all of the table but planNotOfForm and the buffer's
 abbrev pub dossierCauses : List ℕ
 dossierCauses = openingCauses ++ yearCauses
 

@@ -13,7 +13,7 @@ use lib.ListN.{length, length-append}
 use Rattle.activity.specs.declared.Activity.{Activity}
 use Rattle.activity.specs.Activity.{RunInRange}
 use Rattle.wire.specs.Bytes.{Bytes, bytes, joined}
-use Rattle.dossier.specs.Causes.{planNotOfForm, recordRepeated, planCauses, _∈_}
+use Rattle.dossier.specs.Causes.{planNotOfForm, recordRepeated, _∈_}
 use Rattle.dossier.specs.Marks.{PY, EN}
 use Rattle.dossier.specs.Plan.{PlanYear, PlanYearInRange, planYearBytes, PlanYearsInRange, Plan, PlanInRange, planBytes, PlanLent, recordsIn, recordsFor}
 use Rattle.dossier.specs.Records.{RecordsInRange, bytesIfAny}
@@ -24,6 +24,7 @@ use Rattle.wire.proofs.BytesLaws.{bytes-after, length-bytes}
 use Rattle.dossier.proofs.ReaderLaws.{no, never, step, was, mark-yes, mark-only, stands-bytes, nothing-only}
 use Rattle.dossier.proofs.Exact.{Exact, begin-first, field-then, within-then}
 use Rattle.dossier.proofs.ExactParts.{Any, last-then, OptionThen, if-any}
+use Rattle.dossier.proofs.CauseLaws.{planCauses}
 use Rattle.dossier.proofs.RunLaws.{Over, activities-exact}
 use Rattle.dossier.proofs.PlanSteps.{year-read}
 

@@ -84,7 +84,7 @@ last-year k least s bs q = go (begin PY 2 s) refl q
           year = number (take 2 u);
           inOrder = (record { years = w; activities = record { count = omega arith; each = tt; different = tt } }, tt);
           room = omega arith;
-          records = drop 2 u;
+          recordBytes = drop 2 u;
           repeats = refused-repeats (drop 2 u) (bytes-drop 2 u bu) (a ∙ ap (λ (m : ℕ). refused m) z);
           encoded = unfold joined in e ∙ ap (λ (x : List ℕ). bytes 2 PY ++ x) (split 2 u bu h);
         }
@@ -105,7 +105,7 @@ one-more k least s p u i e r = record {
   year = r .year;
   inOrder = (i, r .inOrder);
   room = omega (arith, r .room);
-  records = r .records;
+  recordBytes = r .recordBytes;
   repeats = r .repeats;
   encoded = unfold joined in e ∙ rw (r .encoded, append-assoc);
 }
@@ -138,7 +138,7 @@ repeating-years (suc k) least before s bs q = go (stands (is PY) s) q (λ p u b.
 plan-repeats : (s : List ℕ) → PlanRepeats s → lentPlan s ≡ refused 14
 plan-repeats s r =
     let some-bytes : 0 < length s = rw (r .encoded) (simp (length-append, length-bytes) (omega arith)) in
-    let stopped : planYears 20 0 [] s ≡ refused 14 = rw (r .encoded) (years-repeat 20 0 [] (r .years) (r .year) (r .room) (r .inOrder) (r .records) (repeats-refused _ (r .repeats))) in
+    let stopped : planYears 20 0 [] s ≡ refused 14 = rw (r .encoded) (years-repeat 20 0 [] (r .years) (r .year) (r .room) (r .inOrder) (r .recordBytes) (repeats-refused _ (r .repeats))) in
     lent-refused s some-bytes 14 (rw stopped)
 
 repeats-plan : (s : List ℕ) → Bytes s → lentPlan s ≡ refused 14 → PlanRepeats s

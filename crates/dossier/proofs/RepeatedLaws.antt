@@ -1,4 +1,4 @@
--- #105: a year's records are refused 14 just where they begin with records as they should be and one that equals one of these; so is a plan.
+-- #105: a year's records are refused 14 just where they begin with records as they should be and one that equals one of these.
 -- Assumes nothing.
 use Prim.Native.Nat.{ℕ, zero, suc, _<_}
 use mathlib.Core.Path.{_≡_, refl, _∙_, ap}
@@ -8,7 +8,7 @@ use mathlib.Core.List.{List, [], _∷_, _++_, append-assoc, append-nil}
 use native.Mathlib.Omega.{arith}
 use lib.ListN.{length}
 use Rattle.activity.specs.declared.Activity.{Activity}
-use Rattle.activity.specs.Activity.{ActivityInRange, ActivitiesInRange, AllDifferent}
+use Rattle.activity.specs.Activity.{ActivityInRange, ActivitiesInRange, NoneOf, AllDifferent}
 use Rattle.wire.specs.Bytes.{Bytes, joined}
 use Rattle.figures.specs.Year.{Year}
 use Rattle.dossier.specs.Marks.{PL}
@@ -24,17 +24,17 @@ use Rattle.dossier.proofs.ReaderLaws.{never}
 use Rattle.dossier.proofs.CauseLaws.{not-listed}
 use Rattle.dossier.proofs.Causes.{recordCauses, activity-causes}
 use Rattle.dossier.proofs.ActivityLaws.{activity-exact, begins-activity}
-use Rattle.dossier.proofs.SameLaws.{false-true, fresh-none, none-fresh, different-more, different-at}
+use Rattle.dossier.proofs.SameLaws.{false-true, fresh-none, none-fresh, different-more}
 use Rattle.dossier.proofs.RunLaws.{runBytes, activities-one, activities-continue}
 use Rattle.dossier.proofs.TakenLaws.{run-not-planned, taken-own}
 use Rattle.dossier.proofs.YearLaws.{TablesInRange, tablesBytes, records-refused}
 
 -- ---- such records are refused
-repeated : (l : List Activity) (a : Activity) → AllDifferent l → (AllDifferent (l ++ (a ∷ [])) → ⊥) → fresh l a ≡ false
-repeated l a d f = go (fresh l a) refl
+repeated : (l : List Activity) (a : Activity) → (NoneOf l a → ⊥) → fresh l a ≡ false
+repeated l a f = go (fresh l a) refl
   where
     go : (b : Bool) → fresh l a ≡ b → b ≡ false
-    go true e = absurd (f (different-more l a d (fresh-none l a e)))
+    go true e = absurd (f (fresh-none l a e))
     go false e = refl
 
 pub repeats-refused : (s : List ℕ) → Repeats s → activities [] s ≡ refused 14
@@ -45,7 +45,7 @@ repeats-refused s r =
     rw (r .encoded)
     (activities-continue [] (r .before) u (omega (arith, r .room)) (r .inOrder .each) d
     ∙ activities-one (r .before) u (r .room) (begins-activity (r .again) (r .rest)) (activity-exact .reads (r .again) (r .rest) tt (r .inRange))
-    ∙ rw (repeated (r .before) (r .again) d (r .equal)))
+    ∙ rw (repeated (r .before) (r .again) (r .equal)))
 
 -- ---- and what is refused 14 is such records: after those before, fewer than k more, and one that equals one of all these
 record RepeatsAfter (k : ℕ) (before : List Activity) (s : List ℕ) : Type 0 where
@@ -131,7 +131,7 @@ refused-repeats s bs q =
       room = r .count;
       again = r .again;
       inRange = r .inRange;
-      equal = λ h. false-true (r .equal) (none-fresh (r .more) (r .again) (different-at (r .more) (r .again) [] h));
+      equal = λ h. false-true (r .equal) (none-fresh (r .more) (r .again) h);
       rest = r .rest;
       encoded = r .encoded;
     }

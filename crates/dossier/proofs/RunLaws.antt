@@ -26,7 +26,8 @@ use Rattle.dossier.proofs.SameLaws.{fresh-none, none-fresh, different-m
 abbrev pub oneMore : List Activity → Activity → Reader (List Activity)
 oneMore before a = holds 14 (fresh before a) >> activities (before ++ (a ∷ []))
 
--- the run without a count: where an activity mark stands, the 61st is 9, and another is read and the run goes on after it; elsewhere the run is over
+-- the run without a count: where an activity mark stands, the 61st is 9, and another is read, is 14 where it is
+-- one of those before, and the run goes on after it; elsewhere the run is over
 pub activities-are : (before : List Activity) (s : List ℕ)
     → activities before s ≡ upon activityMark (cond (ltb (length before) 60) (activity >>= oneMore before) (refuse 9)) (give before) s
 activities-are before s = go (ltb (length before) 60) (ltb-true _ _) (ltb-false _ _)
@@ -44,7 +45,9 @@ activities-are before s = go (ltb (length before) 60) (ltb-true _ _) (ltb-false 
         → activities before s ≡ upon activityMark (cond b (activity >>= oneMore before) (refuse 9)) (give before) s
     go true h k =
         unfold activities run in
-        rw (some (h refl)) (ap (λ (f : Activity → Reader (List Activity)). upon activityMark (activity >>= f) (give before) s) (λ i a. holds 14 (fresh before a) >> run (one-less (h refl) a i) (before ++ (a ∷ []))))
+        rw (some (h refl))
+        (ap (λ (f : Activity → Reader (List Activity)). upon activityMark (activity >>= f) (give before) s)
+        (λ i a. holds 14 (fresh before a) >> run (one-less (h refl) a i) (before ++ (a ∷ []))))
     go false h k = unfold activities run in rw (full (k refl))
 
 -- a record that is read: the run goes on after it, or it is one of those before and 14

@@ -12,7 +12,7 @@ use Rattle.activity.specs.declared.Activity.{Activity}
 use Rattle.activity.specs.declared.Activity.the-variants.{Fuel, Vehicles, Nitrogen, Lime}
 use Rattle.activity.specs.Activity.{NoneOf, AllDifferent}
 use Rattle.dossier.specs.Marks.{FU, VE, NI}
-use Rattle.dossier.specs.Layouts.{rowOf, numbersOf, alike, same, fresh}
+use Rattle.dossier.specs.Layouts.{layoutOf, numbersOf, alike, same, fresh}
 
 pub false-true : {b : Bool} → b ≡ false → b ≡ true → ⊥
 false-true f t = let z : _≡_ {A = ℕ} 1 0 = ap (λ (b : Bool). cond b 0 1) (sym f ∙ t) in absurd (omega arith)
@@ -39,7 +39,7 @@ recordFrom m xs =
     (cond (eqb m VE) (Vehicles (getD xs 0 0) (getD xs 1 0) (getD xs 2 0) (getD xs 3 0))
     (cond (eqb m NI) (Nitrogen (getD xs 0 0) (getD xs 1 0) (getD xs 2 0) (getD xs 3 0)) (Lime (getD xs 0 0) (getD xs 1 0))))
 
-told : (a : Activity) → recordFrom (rowOf a .mark) (numbersOf a) ≡ a
+told : (a : Activity) → recordFrom (layoutOf a .mark) (numbersOf a) ≡ a
 unfolding recordFrom
 told (Fuel kind grams) = refl
 told (Vehicles kind count average rate) = refl
@@ -48,15 +48,15 @@ told (Lime material grams) = refl
 
 pub same-eq : (a b : Activity) → same a b ≡ true → a ≡ b
 unfolding same
-same-eq a b e = go (eqb (rowOf a .mark) (rowOf b .mark)) (eqb-true _ _) e
+same-eq a b e = go (eqb (layoutOf a .mark) (layoutOf b .mark)) (eqb-true _ _) e
   where
-    go : (t : Bool) → (t ≡ true → rowOf a .mark ≡ rowOf b .mark) → cond t (alike (numbersOf a) (numbersOf b)) false ≡ true → a ≡ b
+    go : (t : Bool) → (t ≡ true → layoutOf a .mark ≡ layoutOf b .mark) → cond t (alike (numbersOf a) (numbersOf b)) false ≡ true → a ≡ b
     go true h e = let n = alike-eq (numbersOf a) (numbersOf b) e in sym (told a) ∙ (λ i. recordFrom (h refl i) (n i)) ∙ told b
     go false h e = absurd (false-true refl e)
 
 pub same-itself : (a : Activity) → same a a ≡ true
 unfolding same
-same-itself a = rw (eq-eqb (rowOf a .mark) (rowOf a .mark) refl) (alike-itself (numbersOf a))
+same-itself a = rw (eq-eqb (layoutOf a .mark) (layoutOf a .mark) refl) (alike-itself (numbersOf a))
 
 -- ---- a record that is none of a list's
 pub fresh-none : (l : List Activity) (a : Activity) → fresh l a ≡ true → NoneOf l a

@@ -8,13 +8,13 @@ use mathlib.Core.List.{List, [], _∷_}
 use lib.Dec.{T}
 use lib.ListN.{take}
 use Rattle.wire.specs.Bytes.{Bytes}
-use Rattle.dossier.specs.Causes.{planNotOfForm, recordRepeated, planCauses, yearCauses, _∈_}
+use Rattle.dossier.specs.Causes.{planNotOfForm, recordRepeated, yearCauses, _∈_}
 use Rattle.dossier.specs.Plan.{Plan, PlanLent}
 use Rattle.dossier.specs.Records.{Due, WellFormedPlan}
 use Rattle.dossier.specs.Reader.{Judged, refused, accepted, Reader, after, give, ifAny}
 use Rattle.dossier.specs.Judging.{dossier, yearPiece}
 use Rattle.dossier.specs.JudgingPlan.{lentPlan, under}
-use Rattle.dossier.proofs.CauseLaws.{listed, without, not-listed, dossierCauses}
+use Rattle.dossier.proofs.CauseLaws.{listed, planCauses, without, not-listed, dossierCauses}
 use Rattle.dossier.proofs.Causes.{Numbered, yearPiece-causes, dossier-causes}
 use Rattle.dossier.proofs.PlanLaws.{lentPlan-refused}
 use Rattle.dossier.proofs.WellFormed.{plan-accepted}

@@ -161,7 +161,8 @@ module _ (Allowed : ℕ → Type 0) (P : (A : Type 0) → ℕ → Reader A → T
     runs zero before =
         c .choice activityMark (c .more (c .refuse tooManyActivities (of-year tt)) (omega arith)) (c .more (c .give before) (omega arith)) (omega arith)
     runs (suc k) before =
-        c .choice activityMark (c .more (c .bind (an-activity (of-year tt) (of-year tt)) (λ a. seq (held recordRepeated _ (of-year tt)) (runs k (before ++ (a ∷ []))))) (omega arith)) (c .more (c .give before) (omega arith)) (omega arith)
+        let one-more = c .bind (an-activity (of-year tt) (of-year tt)) (λ a. seq (held recordRepeated _ (of-year tt)) (runs k (before ++ (a ∷ [])))) in
+        c .choice activityMark (c .more one-more (omega arith)) (c .more (c .give before) (omega arith)) (omega arith)
 
     none-lefts : {A : Type 0} → P _ 6 (noneLeft {A = A})
     unfolding noneLeft

@@ -73,11 +73,7 @@ causes =
 abbrev pub openingCauses : List ℕ
 openingCauses = bytesMissing ∷ markNotDue ∷ headOutOfRange ∷ areaTotalWrong ∷ rowSumWrong ∷ stockOutOfRange ∷ []
 
--- a plan, "judged before dossier or piece" (#103)
-abbrev pub planCauses : List ℕ
-planCauses = planNotOfForm ∷ recordRepeated ∷ []
-
--- YR, CP, CD, and the activity records or PL
+-- YR, CP, CD, and the activity records or PL; those of a plan are planNotOfForm, and recordRepeated as here
 abbrev pub yearCauses : List ℕ
 yearCauses =
     bytesMissing ∷ markNotDue ∷ yearWrong ∷ conversionTotalWrong ∷ activityOutOfRange ∷ tooManyActivities ∷ plannedYearWrong ∷ recordRepeated ∷ []

@@ -53,11 +53,11 @@ abbrev pub filed : Layout → List ℕ → List ℕ
 filed l numbers = bytes 2 (l .mark) ++ inFields (l .widths) numbers
 
 -- the row of a record, and the number in each of its fields
-abbrev pub rowOf : Activity → Layout
-rowOf (Fuel kind grams) = fuel
-rowOf (Vehicles kind count average rate) = vehicles
-rowOf (Nitrogen source crop grams content) = nitrogen
-rowOf (Lime material grams) = lime
+abbrev pub layoutOf : Activity → Layout
+layoutOf (Fuel kind grams) = fuel
+layoutOf (Vehicles kind count average rate) = vehicles
+layoutOf (Nitrogen source crop grams content) = nitrogen
+layoutOf (Lime material grams) = lime
 
 abbrev pub numbersOf : Activity → List ℕ
 numbersOf (Fuel kind grams) = kind ∷ grams ∷ []
@@ -66,7 +66,7 @@ numbersOf (Nitrogen source crop grams content) = source ∷ crop ∷ grams ∷ c
 numbersOf (Lime material grams) = material ∷ grams ∷ []
 
 unfoldable pub activityBytes : Activity → List ℕ
-activityBytes a = filed (rowOf a) (numbersOf a)
+activityBytes a = filed (layoutOf a) (numbersOf a)
 
 -- whether two lists have the same numbers
 abbrev pub alike : List ℕ → List ℕ → Bool
@@ -77,7 +77,7 @@ alike (x ∷ xs) (y ∷ ys) = cond (eqb x y) (alike xs ys) false
 
 -- #105, "equal in mark and all fields"
 unfoldable pub same : Activity → Activity → Bool
-same a b = cond (eqb (rowOf a .mark) (rowOf b .mark)) (alike (numbersOf a) (numbersOf b)) false
+same a b = cond (eqb (layoutOf a .mark) (layoutOf b .mark)) (alike (numbersOf a) (numbersOf b)) false
 
 -- whether a record is none of these
 unfoldable pub fresh : List Activity → Activity → Bool

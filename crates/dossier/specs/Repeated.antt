@@ -5,20 +5,20 @@ use mathlib.Core.Path.{_≡_}
 use mathlib.Core.List.{List, [], _∷_, _++_, map}
 use lib.ListN.{length}
 use Rattle.activity.specs.declared.Activity.{Activity}
-use Rattle.activity.specs.Activity.{ActivityInRange, AllDifferent, RunInRange}
+use Rattle.activity.specs.Activity.{ActivityInRange, NoneOf, RunInRange}
 use Rattle.wire.specs.Bytes.{bytes, joined}
 use Rattle.dossier.specs.Marks.{PY}
 use Rattle.dossier.specs.Layouts.{activityBytes}
 use Rattle.dossier.specs.Plan.{PlanYear, planYearBytes, PlanYearsInRange}
 
--- a year's activity records as they should be, then one more in range, with which they are no longer all different; whatever follows
+-- a year's activity records as they should be, then one more in range that is one of them; whatever follows
 pub record Repeats (s : List ℕ) : Type 0 where
   pub before : List Activity
   pub inOrder : RunInRange before
   pub room : length before < 60
   pub again : Activity
   pub inRange : ActivityInRange again
-  pub equal : AllDifferent (before ++ (again ∷ [])) → ⊥
+  pub equal : NoneOf before again → ⊥
   pub rest : List ℕ
   pub encoded : s ≡ joined (map activityBytes before) ++ (activityBytes again ++ rest)
 
@@ -28,9 +28,10 @@ pub record YearsRepeat (most least : ℕ) (s : List ℕ) : Type 0 where
   pub year : ℕ
   pub inOrder : PlanYearsInRange least (years ++ (record { year = year; activities = [] } ∷ []))
   pub room : length years < most
-  pub records : List ℕ
-  pub repeats : Repeats records
-  pub encoded : s ≡ joined (map planYearBytes years) ++ (bytes 2 PY ++ (bytes 2 year ++ records))
+  pub recordBytes : List ℕ
+  pub repeats : Repeats recordBytes
+  pub encoded : s ≡ joined (map planYearBytes years) ++ (bytes 2 PY ++ (bytes 2 year ++ recordBytes))
 
+-- the bytes of a plan, "0 to 20 times"
 abbrev pub PlanRepeats : List ℕ → Type 0
 PlanRepeats plan = YearsRepeat 20 0 plan

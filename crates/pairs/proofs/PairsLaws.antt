@@ -78,14 +78,14 @@ few-differ (suc (suc n)) l h = absurd (omega arith)
 
 -- ---- the numbers passed: all differ, and the flag of each is set
 pub record Passed (flags : List Bool) (l : List ℕ) : Type 0 where
-  pub long : length flags ≡ 1024
+  pub long : length flags ≡ 1021
   pub differ : someEqual l ≡ false
   pub flagged : (x : ℕ) → among l x ≡ true → getD flags (slot x) false ≡ true
 
-pub none-passed : Passed (replicate 1024 false) []
+pub none-passed : Passed (replicate 1021 false) []
 unfolding among someEqual
 none-passed = record {
-  long = length-replicate 1024 false;
+  long = length-replicate 1021 false;
   differ = refl;
   flagged = λ x e. cc;
 }
@@ -106,7 +106,7 @@ flag-stays flags i j l e = go (eqb j i) (eqb-true j i) (eqb-false j i)
     go false f g = getD-set-other flags i j true false (g refl) ∙ e
 
 -- one that is none of them is passed, once its flag is set
-module _ {flags : List Bool} {l : List ℕ} (p : Passed flags l) (x : ℕ) (h : slot x < 1024) where
+module _ {flags : List Bool} {l : List ℕ} (p : Passed flags l) (x : ℕ) (h : slot x < 1021) where
   flags-more : (y : ℕ) (b : Bool) → (b ≡ true → getD flags (slot y) false ≡ true) → (d : Bool) → (d ≡ true → x ≡ y) → cond b true d ≡ true
       → getD (set flags (slot x) true) (slot y) false ≡ true
   flags-more y true f d g e = flag-stays flags (slot x) (slot y) (omega (arith, p .long)) (f refl)
@@ -119,6 +119,6 @@ module _ {flags : List Bool} {l : List ℕ} (p : Passed flags l) (x : ℕ) (h : 
     flagged = λ y e. flags-more y (among l y) (p .flagged y) (eqb x y) (eqb-true x y) (sym (among-more l x y) ∙ e);
   }
 
-pub passed-next : {flags : List Bool} (l : List ℕ) (k i : ℕ) → Passed flags (take k l) → k < length l → i ≡ slot (getD l k 0) → i < 1024
+pub passed-next : {flags : List Bool} (l : List ℕ) (k i : ℕ) → Passed flags (take k l) → k < length l → i ≡ slot (getD l k 0) → i < 1021
     → among (take k l) (getD l k 0) ≡ false → Passed (set flags i true) (take (k + 1) l)
 passed-next l k i p h e b n = rw (add-one, take-suc l k 0, e) (passed-more p (getD l k 0) (rw e at b) n)

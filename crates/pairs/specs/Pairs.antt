@@ -1,6 +1,6 @@
 -- Whether two numbers of a list are equal, and the flag of a number.
 -- Serves contracts of inner functions and proofs; nothing here has to be believed. Assumes nothing.
-use Prim.Native.Nat.{ℕ, _+_, _*_, _/_, _%_}
+use Prim.Native.Nat.{ℕ, _%_}
 use mathlib.Core.Bool.{Bool, true, false, cond}
 use mathlib.Core.List.{List, [], _∷_}
 use lib.Dec.{eqb}
@@ -15,6 +15,6 @@ unfoldable pub someEqual : List ℕ → Bool
 someEqual [] = false
 someEqual (x ∷ rest) = cond (among rest x) true (someEqual rest)
 
--- which of the 1,024 flags is a number's
+-- which of the 1,021 flags is a number's
 unfoldable pub slot : ℕ → ℕ
-slot x = (x % 4_294_967_296 + x / 4_294_967_296) * 1_640_531_527 / 4_194_304 % 1_024
+slot x = x % 1_021

@@ -4,11 +4,11 @@ ghost use Prim.Native.Nat.{_≤_, _<_};
 ghost use lib.ListN.{length, take};
 ghost use Rattle.pairs.specs.Pairs.{among as isAmong, someEqual, slot};
 
-// The flag of a number.
+// The flag of a number: its remainder by a prime, so that numbers in equal steps have different flags, as those of round quantities.
 fn slot_of(x: u64) -> usize
-    ensures { λ r. ⌜ (r ≡ slot x) × (r < 1024) ⌝ }
+    ensures { λ r. ⌜ (r ≡ slot x) × (r < 1021) ⌝ }
 {
-    ((x % 4294967296 + x / 4294967296) * 1640531527 / 4194304 % 1024) as usize
+    (x % 1021) as usize
 }
 
 // Whether x is among the first count numbers. Each is compared, with no branch, so that the compiler takes several at a time.
@@ -33,7 +33,7 @@ pub fn any_equal(numbers: &[u64; 60], count: usize) -> bool
     if count < 2 {
         return false;
     }
-    let mut flags = [false; 1024];
+    let mut flags = [false; 1021];
     let mut k: usize = 0;
     while k < count {
         let x = numbers[k];

@@ -11,14 +11,14 @@ use lib.Dec.{lit<}
 use lib.ListN.{length, replicate}
 use Rattle.wire.specs.Bytes.{Bytes}
 use Rattle.figures.specs.Year.{Year}
-use Rattle.dossier.specs.Causes.{planNotOfForm, recordRepeated, planCauses, yearCauses, closingCauses, _∈_, ZeroOr}
+use Rattle.dossier.specs.Causes.{planNotOfForm, recordRepeated, yearCauses, closingCauses, _∈_, ZeroOr}
 use Rattle.dossier.specs.Plan.{Plan}
 use Rattle.dossier.specs.Records.{Opening, Dossier, bytesIfAny}
 use Rattle.dossier.specs.Repeated.{PlanRepeats}
 use Rattle.dossier.specs.Reader.{Judged, refused, accepted, Reader}
 use Rattle.dossier.specs.Judging.{dossier, openingPiece, yearPiece}
 use Rattle.dossier.specs.JudgingPlan.{lentPlan, under}
-use Rattle.dossier.proofs.CauseLaws.{dossierCauses}
+use Rattle.dossier.proofs.CauseLaws.{planCauses, dossierCauses}
 use Rattle.dossier.proofs.Causes.{yearPiece-causes, dossier-causes}
 use Rattle.dossier.proofs.WellFormed.{dossier-accepted, plan-accepted}
 use Rattle.dossier.proofs.PlanLaws.{lentPlan-refused}

@@ -22,13 +22,13 @@ use Rattle.printout.specs.Printout.{printout}
 abbrev pub NotOfForm : List ℕ → Type 0
 NotOfForm plan = (p : Option Plan) → WellFormedPlan p plan → ⊥
 
--- the number n of a call by a plan: 12 just for such a plan that does not repeat a record first, 14 for one that does
+-- the number n of a call that is lent a plan: 12 just for bytes that are no plan and whose first fault is not a repeated record; 14 where it is (#105)
 pub record ByPlan (n : ℕ) (plan : List ℕ) : Type 0 where
   pub unfit : (n ≡ planNotOfForm) ↔ (NotOfForm plan × (PlanRepeats plan → ⊥))
   pub repeats : PlanRepeats plan → n ≡ recordRepeated
 
 -- of any bytes, any plan, any ledger and any buffer; a plan's own number by the plan alone, "judged before dossier or piece" (#103), whatever these, the
--- ledger and the buffer are: 14 where its first fault is a record that equals an earlier one of its year (#105), 12 for any other fault; `yearsheet` lends no plan and a buffer for 20 years, 1,312 bytes, and prints of refused bytes the number alone
+-- ledger and the buffer are; `yearsheet` lends no plan and a buffer for 20 years, 1,312 bytes, and prints of refused bytes the number alone
 pub record RefusalsLeave : Type 0 where
   pub opening : (piece : List ℕ) → (answerNumber (openCall piece .answer) ≡ 0 → ⊥) → openCall piece .ledger ≡ emptyLedger
   pub year : (l : Ledger) (piece plan : List ℕ) → (answerNumber (yearCall l piece plan .answer) ≡ 0 → ⊥) → yearCall l piece plan .ledger ≡ l

@@ -2,20 +2,13 @@
 -- Assumes nothing.
 use mathlib.Core.Path.{refl}
 use native.Mathlib.Omega.{arith}
-use borrow.Author.Needs.{needs}
 use Rattle.pairs.specs.Pairs.{slot}
 use Rattle.pairs.proofs.slot_of.Statement.{statement}
 use Rattle.pairs.proofs.slot_of.Tie as tie
-
-add-result : tie.Need-add-result
-add-result c = search needs
-
-mul-result : tie.Need-mul-result
-mul-result c = search needs
 
 returns : tie.Need-returns
 unfolding slot
 returns c = (refl, omega arith)
 
 pub slot-of-spec : {M : Type 1} → statement M
-slot-of-spec = tie.close (tie.spec add-result mul-result returns)
+slot-of-spec = tie.close (tie.spec returns)
