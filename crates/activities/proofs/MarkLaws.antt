@@ -1,14 +1,16 @@
 -- Which mark a number is. `search marking` goes through the marks that it may be.
 -- Assumes nothing.
 use Prim.Native.Nat.{ℕ}
-use mathlib.Core.Path.{_≡_, refl}
+use mathlib.Core.Path.{_≡_, refl, sym}
 use mathlib.Core.Bool.{Bool, true, false, cond}
 use mathlib.Core.List.{List}
 use borrow.Author.Tests.{eq-eqb, ne-eqb}
 use Rattle.activity.specs.declared.Activity.{Activity}
 use Rattle.dossier.specs.Layouts.{fuel, lime}
 use Rattle.dossier.specs.Reader.{Judged, refused, Reader, refuse}
-use Rattle.dossier.specs.JudgingRecords.{fieldsOf}
+use Rattle.dossier.specs.JudgingRecords.{fieldsOf, activityMark}
+use Rattle.activities.specs.declared.ActivityAnswer.{ActivityAnswer}
+use Rattle.activities.specs.Answers.{activityInside, MarkedBy}
 
 -- the choice between two answers; the last mark's test is itself the answer
 module _ {A : Type 0} {j : A} (b : Bool) (p q : A) where
@@ -41,5 +43,11 @@ module _ {j : Judged Activity} (b : Bool) (u : List ℕ) (h : j ≡ fieldsOf (co
 
   pub as-lime : b ≡ false → j ≡ fieldsOf lime u
   as-lime e = rw e at h
+
+-- what a reader of records answers, where the mark is that of one
+pub marked : (m : ℕ) (s : List ℕ) (r : ActivityAnswer) → activityInside s r → true ≡ activityMark m → MarkedBy m s r
+marked m s (ActivityAnswer.Read activity next) i t = (sym t, i)
+marked m s (ActivityAnswer.Refused n) i t = sym t
+marked m s ActivityAnswer.Over i t = absurd i
 
 pub ruleset marking = (cond-yes, cond-no, cond-itself, row-yes, row-no, no-row, as-fuel, as-lime, eq-eqb, ne-eqb)

@@ -7,7 +7,7 @@ use mathlib.Core.List.{List, [], _∷_, _++_}
 use native.Mathlib.Nat.{add-assoc}
 use native.Mathlib.Omega.{arith}
 use borrow.Author.Needs.{sfits-of}
-use borrow.Author.Tests.{lt-ltb, not-true, not-false}
+use borrow.Author.Tests.{lt-ltb}
 use lib.IntN.{pos, _+ℤ_}
 use lib.ListN.{length, take, drop, set, length-drop}
 use lib.Seq.{drop-drop}
@@ -27,7 +27,7 @@ use Rattle.dossier.proofs.RunLaws.{activities-are, activities-one, activities-o
 use Rattle.dossier.proofs.Refusals.{sixty-first}
 use Rattle.dossier.proofs.ActivityLaws.{activity-is, under-range}
 use Rattle.dossier.proofs.ReaderLaws.{stands-short, stands-here}
-use Rattle.activities.specs.Answers.{activitySays, activityInside, Keyed, RecordsSaid}
+use Rattle.activities.specs.Answers.{activitySays, MarkedBy, Keyed, RecordsSaid}
 use Rattle.activities.specs.declared.ActivityAnswer.{ActivityAnswer}
 use Rattle.activities.specs.declared.RunAnswer.{RunAnswer}
 use Rattle.activities.proofs.KeyedLaws.{keyed-more, judged-more}
@@ -72,57 +72,63 @@ module _ {s keys : List ℕ} {at : ℕ} {grams : Grams} {count : ℕ} (l : SoFar
   pub ended : length s - at < 2 → RecordsSaid s keys (record { count = count; answer = RunAnswer.Read grams at })
   ended h = over (stands-short activityMark (drop at s) (rw length-drop h))
 
-  -- the mark m does; b says whether it is that of an activity record
-  module _ (m : ℕ) (long : 2 ≤ length s - at) (e : m ≡ fieldAt 2 s at) (b : Bool) (h : b ≡ activityMark m) where
+  -- the mark m does
+  module _ (m : ℕ) (long : 2 ≤ length s - at) (e : m ≡ fieldAt 2 s at) where
     two : 2 ≤ length (drop at s)
     two = rw length-drop long
 
-    due-is : stands activityMark (drop at s) ≡ b
+    due-is : stands activityMark (drop at s) ≡ activityMark m
     unfolding fieldAt
-    due-is = stands-here activityMark (drop at s) two ∙ rw (← e) (sym h)
+    due-is = stands-here activityMark (drop at s) two ∙ rw (← e)
 
-    pub other : b ≡ false → RecordsSaid s keys (record { count = count; answer = RunAnswer.Read grams at })
-    other f = over (due-is ∙ f)
+    -- after sixty records
+    pub full : count ≡ 60 → (r : RunAnswer) → r ≡ cond (activityMark m) (RunAnswer.Refused 9) (RunAnswer.Read grams at) → RecordsSaid s keys (record { count = count; answer = r })
+    full k r q = rw q (go (activityMark m) due-is)
+      where
+        go : (b : Bool) → stands activityMark (drop at s) ≡ b → RecordsSaid s keys (record { count = count; answer = cond b (RunAnswer.Refused 9) (RunAnswer.Read grams at) })
+        go true t = stopped (sixty-first (l .records) (drop at s) (omega (arith, l .keyed .counted)) t)
+        go false f = over f
 
-    module _ (t : b ≡ true) where
-      -- the 61st record
-      pub full : count ≡ 60 → RecordsSaid s keys (record { count = count; answer = RunAnswer.Refused 9 })
-      full k = stopped (sixty-first (l .records) (drop at s) (omega (arith, l .keyed .counted)) (due-is ∙ t))
+    module _ (less : count ≡ 60 → ⊥) (r : ActivityAnswer) (says : activitySays s r ≡ activityUnder m (drop (at + 2) s)) (marked : MarkedBy m s r) where
+      -- no record
+      pub other : r ≡ ActivityAnswer.Over → RecordsSaid s keys (record { count = count; answer = RunAnswer.Read grams at })
+      other q = over (due-is ∙ (rw q at marked))
 
-      module _ (less : count ≡ 60 → ⊥) (r : ActivityAnswer) (says : activitySays s r ≡ activityUnder m (drop (at + 2) s)) where
-        room : length (l .records) < 60
-        room = omega (arith, l .keyed .few, l .keyed .counted)
+      room : length (l .records) < 60
+      room = omega (arith, l .keyed .few, l .keyed .counted)
 
-        activity-says : activity (drop at s) ≡ activitySays s r
-        unfolding fieldAt
-        activity-says = rw (activity-is (drop at s) two, ← e, drop-drop) (sym says)
+      activity-says : activity (drop at s) ≡ activitySays s r
+      unfolding fieldAt
+      activity-says = rw (activity-is (drop at s) two, ← e, drop-drop) (sym says)
 
-        -- a record that is refused
-        pub faulty : (n : ℕ) → r ≡ ActivityAnswer.Refused n → RecordsSaid s keys (record { count = count; answer = RunAnswer.Refused n })
-        unfolding upon _>>=_
-        faulty n q =
-            let a : activity (drop at s) ≡ refused n = rw q at activity-says in
-            stopped (activities-are (l .records) (drop at s) ∙ rw (due-is, t, lt-ltb _ _ room, a))
+      -- a record that is refused
+      pub faulty : (n : ℕ) → r ≡ ActivityAnswer.Refused n → RecordsSaid s keys (record { count = count; answer = RunAnswer.Refused n })
+      unfolding upon _>>=_
+      faulty n q =
+          let a : activity (drop at s) ≡ refused n = rw q at activity-says in
+          let t : activityMark m ≡ true = rw q at marked in
+          stopped (activities-are (l .records) (drop at s) ∙ rw (due-is, t, lt-ltb _ _ room, a))
 
-        -- a record that is read: it is in range, the sum with its grams fits, and the loop goes on after it
-        module _ (a : Activity) (next : ℕ) (q : r ≡ ActivityAnswer.Read a next) where
-          pub read-range : ActivityInRange a
-          read-range = under-range m (drop (at + 2) s) (sym (rw q at says))
+      -- a record that is read: it is in range, the sum with its grams fits, and the loop goes on after it
+      module _ (a : Activity) (next : ℕ) (q : r ≡ ActivityAnswer.Read a next) where
+        pub read-range : ActivityInRange a
+        read-range = under-range m (drop (at + 2) s) (sym (rw q at says))
 
-          module _ (g : Grams) (p : g .0 ≡ pos (activityGrams a)) where
-            pub sum-fits : SFits w64 (grams .0 +ℤ g .0)
-            sum-fits = rw (l .summed, p) (sfits-of (omega (arith, emissions-le (l .records) (l .keyed .inRange), grams-le a read-range, room)))
+        module _ (g : Grams) (p : g .0 ≡ pos (activityGrams a)) where
+          pub sum-fits : SFits w64 (grams .0 +ℤ g .0)
+          sum-fits = rw (l .summed, p) (sfits-of (omega (arith, emissions-le (l .records) (l .keyed .inRange), grams-le a read-range, room)))
 
-            pub one-more : activityInside s r → (k : ℕ) → k ≡ key a → (sum : Grams) → sum .0 ≡ grams .0 +ℤ g .0 → SoFar s (set keys count k) next sum (count + 1)
-            one-more i k e sum d =
-                record {
-                  records = l .records ++ (a ∷ []);
-                  keyed = keyed-more (l .keyed) less a read-range k e;
-                  summed = d ∙ rw (l .summed, p, emissions-more);
-                  inside = rw q at i;
-                  goesOn =
-                      l .goesOn
-                      ∙ judged-more (l .keyed) less a read-range k e _ _ (activities-one (l .records) (drop at s) room (due-is ∙ t) (rw q at activity-says));
-                }
+          pub one-more : (k : ℕ) → k ≡ key a → (sum : Grams) → sum .0 ≡ grams .0 +ℤ g .0 → SoFar s (set keys count k) next sum (count + 1)
+          one-more k e sum d =
+              let (t, inside) : (activityMark m ≡ true) × (next ≤ length s) = rw q at marked in
+              record {
+                records = l .records ++ (a ∷ []);
+                keyed = keyed-more (l .keyed) less a read-range k e;
+                summed = d ∙ rw (l .summed, p, emissions-more);
+                inside = inside;
+                goesOn =
+                    l .goesOn
+                    ∙ judged-more (l .keyed) less a read-range k e _ _ (activities-one (l .records) (drop at s) room (due-is ∙ t) (rw q at activity-says));
+              }
 
-pub ruleset running = (not-true, not-false, ended, other, full, faulty, read-range, sum-fits, one-more)
+pub ruleset running = (ended, other, full, faulty, read-range, sum-fits, one-more)

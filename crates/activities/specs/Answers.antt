@@ -2,7 +2,7 @@
 -- Serves contracts of inner functions and proofs; nothing here has to be believed. Assumes nothing.
 use Prim.Native.Nat.{ℕ, _≤_}
 use mathlib.Core.Path.{_≡_}
-use mathlib.Core.Bool.{cond}
+use mathlib.Core.Bool.{true, false, cond}
 use mathlib.Core.List.{List, [], map}
 use lib.IntN.{pos}
 use lib.Signed.{mag}
@@ -13,8 +13,9 @@ use Rattle.activity.specs.declared.Activity.{Activity}
 use Rattle.activity.specs.Activity.{ActivitiesInRange, activityEmissions}
 use Rattle.activity.specs.Key.{key}
 use Rattle.pairs.specs.Pairs.{someEqual}
-use Rattle.dossier.specs.Causes.{recordRepeated}
+use Rattle.dossier.specs.Causes.{markNotDue, recordRepeated}
 use Rattle.dossier.specs.Reader.{Judged, refused, accepted, Reader, _>>=_, give}
+use Rattle.dossier.specs.JudgingRecords.{activityMark}
 use Rattle.dossier.specs.Judging.{activities}
 use Rattle.activities.specs.declared.ActivityAnswer.{ActivityAnswer}
 use Rattle.activities.specs.declared.Records.{Records}
@@ -24,10 +25,18 @@ use Rattle.activities.specs.declared.RunAnswer.{RunAnswer}
 abbrev pub activitySays : List ℕ → ActivityAnswer → Judged Activity
 activitySays s (ActivityAnswer.Read activity next) = accepted activity (drop next s)
 activitySays s (ActivityAnswer.Refused n) = refused n
+activitySays s ActivityAnswer.Over = refused markNotDue
 
 abbrev pub activityInside : List ℕ → ActivityAnswer → Type 0
 activityInside s (ActivityAnswer.Read activity next) = next ≤ length s
 activityInside s (ActivityAnswer.Refused n) = Unit {0}
+activityInside s ActivityAnswer.Over = ⊥
+
+-- whether m is the mark of an activity record, and what follows one that is read
+abbrev pub MarkedBy : ℕ → List ℕ → ActivityAnswer → Type 0
+MarkedBy m s (ActivityAnswer.Read activity next) = (activityMark m ≡ true) × (next ≤ length s)
+MarkedBy m s (ActivityAnswer.Refused n) = activityMark m ≡ true
+MarkedBy m s ActivityAnswer.Over = activityMark m ≡ false
 
 -- ---- a year's records, with their keys
 -- the first keys are those of these records, count of them

@@ -9,7 +9,8 @@ ghost use lib.ListN.{length, drop};
 ghost use Rattle.dossier.specs.Marks.{FU as markFU};
 ghost use Rattle.dossier.specs.Layouts.{fuel, vehicles, nitrogen, lime};
 ghost use Rattle.dossier.specs.JudgingRecords.{fieldsOf, activityMark, activityUnder};
-ghost use Rattle.activities.specs.Answers.{activitySays, activityInside, RecordsSaid, summedActivities, runSays, runInside};
+ghost use Rattle.activities.specs.declared.RunAnswer.{RunAnswer as Answer};
+ghost use Rattle.activities.specs.Answers.{activitySays, activityInside, MarkedBy, RecordsSaid, summedActivities, runSays, runInside};
 
 const FU: u64 = 0x4655;
 
@@ -19,9 +20,11 @@ const NI: u64 = 0x4e49;
 
 const LI: u64 = 0x4c49;
 
+// Over: no activity record stands here.
 enum ActivityAnswer {
     Read { activity: Activity, next: usize },
     Refused(u8),
+    Over,
 }
 
 pub enum RunAnswer {
@@ -159,11 +162,11 @@ fn is_activity(m: u64) -> bool
     m == LI
 }
 
-// The activity record whose mark is m, from its fields on.
+// The activity record whose mark is m, from its fields on; none where m is another mark.
 fn read_activity(s: &[u8], at: usize, m: u64) -> ActivityAnswer
     requires { ⌜ at ≤ length (now s) ⌝ }
     ensures { λ r. ⌜ activitySays (now (s .entry)) r ≡ activityUnder m (drop at (now (s .entry))) ⌝ }
-    ensures { λ r. ⌜ activityInside (now (s .entry)) r ⌝ }
+    ensures { λ r. ⌜ MarkedBy m (now (s .entry)) r ⌝ }
 {
     if m == FU {
         return read_amount(s, at, m);
@@ -177,7 +180,17 @@ fn read_activity(s: &[u8], at: usize, m: u64) -> ActivityAnswer
     if m == LI {
         return read_amount(s, at, m);
     }
-    ActivityAnswer::Refused(2)
+    ActivityAnswer::Over
+}
+
+// What stops the reading after sixty records, before the mark m: the 61st, or their end.
+fn after_sixty(m: u64, grams: Grams, at: usize) -> RunAnswer
+    ensures { λ r. ⌜ r ≡ cond (activityMark m) (Answer.Refused 9) (Answer.Read grams at) ⌝ }
+{
+    if is_activity(m) {
+        return RunAnswer::Refused(9);
+    }
+    RunAnswer::Read { grams, next: at }
 }
 
 // The activity records at the start of a part, with the key of each: equal ones are not refused here.
@@ -190,16 +203,10 @@ fn read_records(part: &[u8], keys: &mut [u64; 60]) -> Records
     let mut count: usize = 0;
     while part.len() - at >= 2 {
         let m = wire::field16(part, at);
-        if !is_activity(m) {
-            return Records {
-                count,
-                answer: RunAnswer::Read { grams, next: at },
-            };
-        }
         if count == 60 {
             return Records {
                 count,
-                answer: RunAnswer::Refused(9),
+                answer: after_sixty(m, grams, at),
             };
         }
         match read_activity(part, at + 2, m) {
@@ -213,6 +220,9 @@ fn read_records(part: &[u8], keys: &mut [u64; 60]) -> Records
                     count,
                     answer: RunAnswer::Refused(n),
                 };
+            }
+            ActivityAnswer::Over => {
+                break;
             }
         }
         count += 1;

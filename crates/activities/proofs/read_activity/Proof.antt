@@ -1,8 +1,8 @@
 -- `activities::read_activity` meets its contract: the mark chooses the reader.
 -- Assumes nothing.
 use borrow.Author.Needs.{needs}
-use Rattle.dossier.specs.JudgingRecords.{activityUnder}
-use Rattle.activities.proofs.MarkLaws.{marking}
+use Rattle.dossier.specs.JudgingRecords.{activityMark, activityUnder}
+use Rattle.activities.proofs.MarkLaws.{marking, marked}
 use Rattle.activities.proofs.read_activity.Statement.{statement}
 use Rattle.activities.proofs.read_activity.Tie as tie
 
@@ -10,33 +10,33 @@ read-amount-requires : tie.Need-read-amount-requires
 read-amount-requires c κs = search needs
 
 returns : tie.Need-returns
-unfolding activityUnder
-returns c = (search marking depth 8, c .read-amount .ensures .1)
+unfolding activityUnder activityMark
+returns c = (search marking depth 8, marked _ _ (c .read-amount .result) (c .read-amount .ensures .1) (search marking))
 
 read-vehicles-requires : tie.Need-read-vehicles-requires
 read-vehicles-requires c κs = search needs
 
 returns-2 : tie.Need-returns-2
-unfolding activityUnder
-returns-2 c = (search marking depth 8, c .read-vehicles .ensures .1)
+unfolding activityUnder activityMark
+returns-2 c = (search marking depth 8, marked _ _ (c .read-vehicles .result) (c .read-vehicles .ensures .1) (search marking))
 
 read-nitrogen-requires : tie.Need-read-nitrogen-requires
 read-nitrogen-requires c κs = search needs
 
 returns-3 : tie.Need-returns-3
-unfolding activityUnder
-returns-3 c = (search marking depth 8, c .read-nitrogen .ensures .1)
+unfolding activityUnder activityMark
+returns-3 c = (search marking depth 8, marked _ _ (c .read-nitrogen .result) (c .read-nitrogen .ensures .1) (search marking))
 
 read-amount-requires-2 : tie.Need-read-amount-requires-2
 read-amount-requires-2 c κs = search needs
 
 returns-4 : tie.Need-returns-4
-unfolding activityUnder
-returns-4 c = (search marking depth 8, c .read-amount2 .ensures .1)
+unfolding activityUnder activityMark
+returns-4 c = (search marking depth 8, marked _ _ (c .read-amount2 .result) (c .read-amount2 .ensures .1) (search marking))
 
 returns-5 : tie.Need-returns-5
-unfolding activityUnder
-returns-5 c = (search marking depth 8, tt)
+unfolding activityUnder activityMark
+returns-5 c = (search marking depth 8, search marking)
 
 pub read-activity-spec : {M : Type 1} → statement M
 read-activity-spec =

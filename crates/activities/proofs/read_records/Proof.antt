@@ -21,14 +21,11 @@ sub-loop c = search needs
 field16-requires : tie.Need-field16-requires Inv-loop μ-loop
 field16-requires c κs = search needs
 
-is-activity-requires : tie.Need-is-activity-requires Inv-loop μ-loop
-is-activity-requires c κs = search needs
+after-sixty-requires : tie.Need-after-sixty-requires Inv-loop μ-loop
+after-sixty-requires c κs = search needs
 
 returns : tie.Need-returns Inv-loop μ-loop
 returns c = search (needs, running)
-
-returns-2 : tie.Need-returns-2 Inv-loop μ-loop
-returns-2 c = search (needs, running)
 
 add-read-activity : tie.Need-add-read-activity Inv-loop μ-loop
 add-read-activity c = search needs
@@ -57,8 +54,11 @@ plus-requires c κs = search (needs, running)
 enum-known-n : tie.Need-enum-known-n Inv-loop μ-loop
 enum-known-n c = search needs
 
-returns-3 : tie.Need-returns-3 Inv-loop μ-loop
-returns-3 c = search (needs, running)
+returns-2 : tie.Need-returns-2 Inv-loop μ-loop
+returns-2 c = search (needs, running)
+
+enum-told : tie.Need-enum-told Inv-loop μ-loop
+enum-told c = search needs
 
 add-count : tie.Need-add-count Inv-loop μ-loop
 add-count c = search needs
@@ -68,6 +68,9 @@ loop-less c = search needs
 
 loop-again : tie.Need-loop-again Inv-loop μ-loop
 loop-again c = search (needs, running)
+
+returns-3 : tie.Need-returns-3 Inv-loop μ-loop
+returns-3 c = search (needs, running)
 
 returns-4 : tie.Need-returns-4 Inv-loop μ-loop
 returns-4 c = search (needs, running)
@@ -81,9 +84,8 @@ read-records-spec =
     loop-holds
     sub-loop
     field16-requires
-    is-activity-requires
+    after-sixty-requires
     returns
-    returns-2
     add-read-activity
     read-activity-requires
     enum-known-activity
@@ -93,8 +95,10 @@ read-records-spec =
     emissions-requires
     plus-requires
     enum-known-n
-    returns-3
+    returns-2
+    enum-told
     add-count
     loop-less
     loop-again
+    returns-3
     returns-4)
