@@ -1,5 +1,5 @@
--- Document 01, "Activity records, grams of CO2": the ranges of each record's fields, and its grams as a numerator over a positive denominator.
--- The rounded and the unrounded reckoning share both.
+-- Document 01, "Activity records, grams of CO2": the ranges of each record's fields, what the records of a year owe, and a record's grams as a numerator
+-- over a positive denominator. The rounded and the unrounded reckoning share all of it.
 -- To be believed. Assumes nothing.
 use Prim.Native.Nat.{ℕ, _+_, _-_, _*_, _≤_}
 use mathlib.Core.Path.{_≡_}
