@@ -1,8 +1,8 @@
-"""Writes long dossiers: Option 2, stocks filed, twenty years, sixty different records of VE in each.
+"""Writes long dossiers: Option 2, stocks filed, twenty years, sixty different records in each, 58 of VE and two of CR.
 
     python3 bench/longest.py                              prints the longest dossier
-    python3 bench/longest.py worst                        prints one as long, in which each year's records have one slot of the proved
-                                                          reckoner's filter for equal records: what costs that filter most
+    python3 bench/longest.py worst                        prints one with sixty of VE a year, which have one slot of the proved reckoner's
+                                                          filter for equal records: what costs that filter most
     python3 bench/longest.py planned DOSSIER PLAN OWN     writes one of planned years, its plan, and the same with the records in it
     python3 bench/longest.py worst-plan                   prints another plan for it, with such records
 """
@@ -21,15 +21,19 @@ TABLE[0] += sum(AREAS) - sum(TABLE)
 YEARS = range(2000, 2020)
 # Grams of fuel per hour: as much as there can be, and so little that the emissions are small enough for a plan.
 MUCH, LITTLE = 100000, 1000
+# Kg of dry matter per ha that go with them.
+YIELD = {MUCH: 10000, LITTLE: 100}
 
 
 def words(code, values):
     return struct.pack(f">{len(values)}{code}", *values)
 
 
-def vehicles(rate):
-    """Sixty of different counts."""
-    return b"".join(b"VE" + struct.pack(">BIII", 1, 1000 - k, 10000, rate) for k in range(60))
+def run(rate):
+    """58 VE of different counts and a CR of either crop, with ratios and contents as great as they can be. No two of these have one slot of
+    the proved reckoner's filter for equal records, as the records of most years."""
+    vehicles = b"".join(b"VE" + struct.pack(">BIII", 1, 1000 - k, 10000, rate) for k in range(58))
+    return vehicles + b"".join(b"CR" + struct.pack(">BIIHHHHH", crop, 10000, YIELD[rate], 5000 * crop, 500, 500, 10000, 10000) for crop in (1, 2))
 
 
 def dossier(records):
@@ -45,7 +49,7 @@ def plan(records):
 
 
 def write_planned(*paths):
-    little = vehicles(LITTLE)
+    little = run(LITTLE)
     for path, data in zip(paths, (dossier(b"PL"), plan(little), dossier(little))):
         pathlib.Path(path).write_bytes(data)
 
@@ -59,4 +63,4 @@ elif sys.argv[1:] == ["worst-plan"]:
 elif sys.argv[1:]:
     sys.exit(__doc__)
 else:
-    sys.stdout.buffer.write(dossier(vehicles(MUCH)))
+    sys.stdout.buffer.write(dossier(run(MUCH)))

@@ -1,13 +1,13 @@
 /* The yardstick of the benchmark: the same steps as tests/plain.c, written for speed. Loads and stores are byte-swapped
  * words; no product and no division is wider than 64 bits; a table is weighed as it is read, a row of twelve at a time; no
- * table is copied. A plan is judged once, and its index says where a year's records stand. Each record is packed into one
- * word, and an equal one is looked for only where a filter has seen its slot. It is not proved: tests/run compares it as it
- * does the plain one, by clang too where that is there. */
+ * table is copied. A plan is judged once, and its index says where a year's records stand. Each record but CR is packed into
+ * one word, and an equal one is looked for only where a filter has seen its slot; a second CR is compared with the first. It
+ * is not proved: tests/run compares it as it does the plain one, by clang too where that is there. */
 #include "plain.h"
 #include <string.h>
 
 #define INLINE static inline __attribute__((always_inline))
-#define APART static __attribute__((noinline)) /* kept out of the code that a call without plan runs through */
+#define APART static __attribute__((noinline)) /* kept out of the code that most calls run through */
 #define UNROLL _Pragma("GCC unroll 12")
 #define MOST 1000000000000u
 
@@ -166,6 +166,53 @@ INLINE int repeated(struct filter *filter, uint8_t *stamp, uint64_t keys[60], in
     return 0;
 }
 
+/* a CR's emissions, or NONE where a field is out of range; fastest apart by clang, in its place by gcc. Its nitrogen fits 64
+ * bits; the shares of source 3 and the divisor 7 × 10^12 are multiples of 7. */
+#define NONE UINT64_MAX
+#ifdef __clang__
+APART
+#else
+INLINE
+#endif
+uint64_t of_residue(bytes s)
+{
+    uint64_t crop = s[2] - 1u, dry = (uint64_t)field32(s + 3) * field32(s + 7), share = field16(s + 11);
+    uint64_t above = field16(s + 13), below = field16(s + 15), above_content = field16(s + 17), below_content = field16(s + 19);
+    if ((crop > 1) | (dry > 100000000) | (share > 10000) | (above > 500) | (below > 500) | (above_content > 10000) | (below_content > 10000))
+        return NONE;
+    uint64_t n = dry * share * (above * above_content + below * below_content), weight = nitrogen[crop][2] / 7 * 3278;
+    return n / 1000000000000 * weight + up(n % 1000000000000 * weight, 1000000000000);
+}
+
+INLINE uint32_t read_residue(bytes s, uint64_t *sum)
+{
+    uint64_t emitted = of_residue(s);
+    if (emitted == NONE)
+        return 8;
+    *sum += emitted;
+    return 0;
+}
+
+/* whether two CR are equal: the 19 bytes of their fields, by words that overlap */
+INLINE int same_residue(bytes a, bytes b)
+{
+    return ((field64(a + 2) ^ field64(b + 2)) | (field64(a + 10) ^ field64(b + 10)) | (field64(a + 13) ^ field64(b + 13))) == 0;
+}
+
+/* A CR has no key, and leaves room for one key less: most is 60, 59 after the first CR and 58 after the second. */
+#define RESIDUE                                                   \
+    if (keyed == most || most == 58)                              \
+        return 9;                                                 \
+    if (left < 21)                                                \
+        return 1;                                                 \
+    if (read_residue(s, &sum))                                    \
+        return 8;                                                 \
+    if (filter && most == 59 && same_residue(residue, s))         \
+        return 14;                                                \
+    residue = s;                                                  \
+    most--;                                                       \
+    s += 21
+
 /* the activity records from s on: their emissions, and the place after the last; or the fault. Without a filter they are
  * known to be different. Each compiler has the form that is fastest by it: clang a reader for each mark, gcc one for all. */
 #ifdef __clang__
@@ -203,7 +250,7 @@ INLINE uint32_t read_amount(bytes s, int liming, uint64_t *sum, uint64_t *key)
 
 /* a record of so many bytes, and its reader */
 #define RECORD(size, read)    \
-    if (before == 60)         \
+    if (keyed == most)        \
         return 9;             \
     if (left < (size))        \
         return 1;             \
@@ -213,10 +260,11 @@ INLINE uint32_t read_amount(bytes s, int liming, uint64_t *sum, uint64_t *key)
 
 INLINE uint32_t activities(bytes *at, bytes end, struct filter *filter, uint64_t *grams)
 {
-    bytes s = *at;
+    bytes s = *at, residue = NULL;
     uint64_t sum = 0, keys[60];
     uint8_t stamp = 0;
-    for (int before = 0;; before++) {
+    int most = 60;
+    for (int keyed = 0;;) {
         size_t left = (size_t)(end - s);
         uint64_t key;
         switch (left < 2 ? 0 : field16(s)) {
@@ -224,27 +272,34 @@ INLINE uint32_t activities(bytes *at, bytes end, struct filter *filter, uint64_t
         case MARK('N', 'I'): RECORD(14, read_nitrogen(s, &sum, &key)); break;
         case MARK('F', 'U'): RECORD(11, read_amount(s, 0, &sum, &key)); break;
         case MARK('L', 'I'): RECORD(11, read_amount(s, 1, &sum, &key)); break;
+        case MARK('C', 'R'): RESIDUE; continue;
         default:
             *at = s;
             *grams = sum;
             return 0;
         }
-        if (filter && repeated(filter, &stamp, keys, before, key))
+        if (filter && repeated(filter, &stamp, keys, keyed, key))
             return 14;
+        keyed++;
     }
 }
 #else
 INLINE uint32_t activities(bytes *at, bytes end, struct filter *filter, uint64_t *grams)
 {
-    bytes s = *at;
+    bytes s = *at, residue = NULL;
     uint64_t sum = 0, keys[60];
     uint8_t stamp = 0;
-    for (int before = 0;; before++) {
+    int most = 60;
+    for (int keyed = 0;;) {
         size_t left = (size_t)(end - s);
         uint32_t mark = left < 2 ? 0 : field16(s);
-        if (mark != MARK('F', 'U') && mark != MARK('V', 'E') && mark != MARK('N', 'I') && mark != MARK('L', 'I'))
-            break;
-        if (before == 60)
+        if (mark != MARK('F', 'U') && mark != MARK('V', 'E') && mark != MARK('N', 'I') && mark != MARK('L', 'I')) {
+            if (mark != MARK('C', 'R'))
+                break;
+            RESIDUE;
+            continue;
+        }
+        if (keyed == most)
             return 9;
         if (left < (mark == MARK('V', 'E') ? 15 : mark == MARK('N', 'I') ? 14 : 11))
             return 1;
@@ -278,8 +333,9 @@ INLINE uint32_t activities(bytes *at, bytes end, struct filter *filter, uint64_t
                 return 8;
             sum += mark == MARK('L', 'I') ? up(g * lime[kind], 300) : up(g * fuel[kind], 100000);
         }
-        if (filter && repeated(filter, &stamp, keys, before, key))
+        if (filter && repeated(filter, &stamp, keys, keyed, key))
             return 14;
+        keyed++;
     }
     *at = s;
     *grams = sum;

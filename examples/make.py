@@ -85,6 +85,25 @@ def newer_stocks():
             + b"DA" + areas(**belt) + b"MP" + struct.pack(">144I", *rows) + years + b"EN")
 
 
+def residue(crop, area, dry_matter, share, above, below, above_content, below_content):
+    return b"CR" + struct.pack(">BIIHHHHH", crop, area, dry_matter, share, above, below, above_content, below_content)
+
+
+def fixing_crops():
+    """Option 1 over two years, with groundnut and mung bean grown on plots within the project: their residue is left on the field, and its
+    nitrogen is reckoned by area and yield. The crops are sown anew each year, so that the renewed share is 1."""
+    start, belt = dict(E=5_000_000_000, SE=1_200_000_000), dict(E=900_000_000, NF=60_000_000)
+    groundnut = (320, 1_650, 10_000, 200, 60, 160, 140), (340, 1_720, 10_000, 197, 59, 160, 140)
+    mung_bean = (210, 1_130, 10_000, 188, 55, 80, 80), (180, 1_240, 10_000, 182, 54, 80, 80)
+    years = b""
+    for y, (lost, belt_lost, diesel) in enumerate(((42_000_000, 20_500_000, 5_400_000), (38_250_000, 31_000_000, 5_900_000))):
+        years += (b"YR" + struct.pack(">HH", 2023 + y, (365, 366)[y])
+                  + b"CP" + conversions(("E", "NF", lost), ("E", "E", start["E"] - lost), ("SE", "SE", start["SE"]))
+                  + b"CD" + conversions(("E", "NF", belt_lost), ("E", "E", belt["E"] - belt_lost), ("NF", "NF", belt["NF"]))
+                  + b"FU" + struct.pack(">BQ", 1, diesel) + residue(1, *groundnut[y]) + residue(1, *mung_bean[y]))
+    return b"HD" + struct.pack(">BHB", 1, 2023, 2) + b"PA" + areas(**start) + b"DA" + areas(**belt) + years + b"EN"
+
+
 def plan(*years):
     """Each year with its records."""
     return b"".join(b"PY" + struct.pack(">H", year) + records for year, records in years) + b"EN"
@@ -139,6 +158,7 @@ if __name__ == "__main__":
     (folder / "bad-year.dossier").write_bytes(bad_year())
     (folder / "twenty-years.dossier").write_bytes(twenty_years())
     (folder / "newer-stocks.dossier").write_bytes(newer_stocks())
+    (folder / "fixing-crops.dossier").write_bytes(fixing_crops())
     for suffix, data in zip(("dossier", "plan"), planned()):
         (folder / f"planned.{suffix}").write_bytes(data)
     for number, data in refusals().items():

@@ -14,15 +14,15 @@ extern "C" {
  * its meaning, a figure its rule of reckoning, or a dossier that was accepted is refused; the second where something is
  * added or, with the same answers, takes less time. */
 #define KH_AM004_VERSION_MAJOR 3
-#define KH_AM004_VERSION_MINOR 0
+#define KH_AM004_VERSION_MINOR 1
 
 /* Bytes of the report of n years. */
 #define KH_AM004_REPORT_BYTES(n) (64 * (size_t)(n) + 32)
 
 /* The greatest number of years, and the bytes of the longest dossier, of the longest plan and of the longest report. */
 #define KH_AM004_MOST_YEARS 20
-#define KH_AM004_LONGEST_DOSSIER 65088
-#define KH_AM004_LONGEST_PLAN 18082
+#define KH_AM004_LONGEST_DOSSIER 65328
+#define KH_AM004_LONGEST_PLAN 18322
 #define KH_AM004_LONGEST_REPORT 1312
 
 /* Where the report holds what. Year y, counted from 0, begins at KH_AM004_AT_YEAR(y), and its figures stand at these
@@ -77,8 +77,8 @@ static inline const char *kh_am004_text(uint32_t number)
     case KH_AM004_REFUSED_YEAR: return "YR: not the next year, one more than n, or operating days";
     case KH_AM004_REFUSED_CONVERSIONS:
         return "CP or CD: the conversions do not sum to the area at inception, that of PA or of DA";
-    case KH_AM004_REFUSED_ACTIVITY: return "an activity record's field, or the product of VE";
-    case KH_AM004_REFUSED_RECORDS: return "a 61st activity record in one year";
+    case KH_AM004_REFUSED_ACTIVITY: return "an activity record's field, or the product of VE or of CR";
+    case KH_AM004_REFUSED_RECORDS: return "a 61st activity record or a third CR in one year";
     case KH_AM004_REFUSED_BUFFER: return "the result buffer is too short";
     case KH_AM004_REFUSED_STOCKS: return "ST: a carbon stock above 50,000, or that of NF not 0";
     case KH_AM004_REFUSED_PLAN: return "the plan: not of its form";

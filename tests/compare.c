@@ -1,7 +1,7 @@
 /* Compares the proved reckoner with the plain one: the same number and the same bytes on dossiers and plans sound, cut,
- * padded and spoilt, none with two equal records in a year (#105); a thread stack of 64 KiB; and, on the longest dossier,
- * no longer a time. The argument is another seed; a second one leaves the times out. Where they differ it prints the seed,
- * and target/difference.dossier and target/difference.plan have the bytes. */
+ * padded and spoilt, none with two equal records in a year (#105) but where a pair is meant; a thread stack of 64 KiB; and,
+ * on the longest dossier, no longer a time. The argument is another seed; a second one leaves the times out. Where they
+ * differ it prints the seed, and target/difference.dossier and target/difference.plan have the bytes. */
 #define _POSIX_C_SOURCE 200809L
 #include "kh_am004.h"
 #include "plain.h"
@@ -11,6 +11,7 @@
 #include <string.h>
 #include <time.h>
 
+enum { FU, VE, NI, LI, CR };
 enum { ONE = 1000000, MOST_RECORDS = 5 + 21 * (3 + 61) + 1 };
 
 /* bytes, and of those in the making where each record begins and where the last one ends */
@@ -109,18 +110,53 @@ static void stay_but(const uint64_t *areas, uint64_t most, int bytes)
 /* at most the share of a greatest quantity, and 1 at least */
 static uint64_t quantity(uint64_t most, uint64_t share) { return draw((most > share ? most / share : 1) + 1); }
 
-/* kind below 0: at random */
+/* up to a limit, and often 0 or the limit itself */
+static uint64_t up_to(uint64_t limit)
+{
+    uint64_t k = draw(6);
+    return k == 0 ? 0 : k == 1 ? limit : draw(limit + 1);
+}
+
+/* crop, area, yield, share, ratios and contents of CR */
+struct residue { uint64_t fields[8]; };
+
+static const struct residue greatest_residue = { { 2, 10000, 10000, 10000, 500, 500, 10000, 10000 } };
+
+static void put_residue(struct residue r)
+{
+    static const int widths[8] = { 1, 4, 4, 2, 2, 2, 2, 2 };
+    mark("CR");
+    for (int k = 0; k < 8; k++)
+        put(r.fields[k], widths[k]);
+}
+
+/* a CR in range: area × yield up to the share of its greatest, or one of them 0 and the other any number */
+static struct residue some_residue(uint64_t share)
+{
+    struct residue r = greatest_residue;
+    uint64_t most = 100000000 / share, one = draw(8) ? 1 + draw(draw(2) ? most : 100) : 0, turned = draw(2);
+    r.fields[0] = 1 + draw(2);
+    r.fields[1 + turned] = one;
+    r.fields[2 - turned] = one ? up_to(most / one) : draw((uint64_t)1 << 32);
+    for (int k = 3; k < 8; k++)
+        r.fields[k] = up_to(r.fields[k]);
+    return r;
+}
+
 static void record(int kind, uint64_t share)
 {
     static const char *marks[4] = { "FU", "VE", "NI", "LI" };
-    kind = kind < 0 ? (int)draw(4) : kind;
+    if (kind == CR) {
+        put_residue(some_residue(share));
+        return;
+    }
     mark(marks[kind]);
     put(1 + draw(3), 1);
-    if (kind == 1) {
+    if (kind == VE) {
         put(quantity(1000, share), 4);
         put(draw(100000), 4);
         put(quantity(10000, share), 4);
-    } else if (kind == 2) {
+    } else if (kind == NI) {
         put(1 + draw(2), 1);
         put(quantity(10000000000, share), 8);
         put(draw(10001), 2);
@@ -138,25 +174,30 @@ static int repeated(int first)
     return 0;
 }
 
-/* so many records, no two of them equal */
-static void run(int records, int kind, uint64_t share)
+/* so many records, no two of them equal, and up to two CR among them, seldom three; longest: two CR and otherwise VE */
+static void run(int records, int longest, uint64_t share)
 {
-    int first = into->records;
-    while (into->records < first + records) {
+    int left = records, first = into->records, residues = longest ? 2 : draw(100) ? (int)draw(3) : 3;
+    while (left) {
+        int kind = (int)draw((uint64_t)left) < residues ? CR : longest ? VE : (int)draw(4);
         record(kind, share);
-        if (repeated(first))
+        if (repeated(first)) {
             into->n = into->begins[--into->records];
+            continue;
+        }
+        residues -= kind == CR;
+        left--;
     }
 }
 
 /* a year of the plan; records below 0: at random */
-static void plan_year(int year, int records, int kind, uint64_t share)
+static void plan_year(int year, int records, int longest, uint64_t share)
 {
     struct bytes *before = into;
     into = &plan;
     mark("PY");
     put((uint64_t)year, 2);
-    run(records < 0 ? (int)draw(61) : records, kind, share);
+    run(records < 0 ? (int)draw(61) : records, longest, share);
     into = before;
 }
 
@@ -195,8 +236,8 @@ static void opening(int option, int filed, int first, int years, int keeps, cons
 }
 
 /* A dossier in made and its plan in plan. filed: with stocks or without; planned: each year by the plan, or no plan; these
- * two, records and kind below 0: at random. */
-static void dossier(int option, int filed, int first, int years, int planned, int records, int kind)
+ * two and records below 0: at random. longest: records as long as they can be. */
+static void dossier(int option, int filed, int first, int years, int planned, int records, int longest)
 {
     /* half of them lose little of their forest and have small records, so that totals of either sign come */
     static const uint64_t losses[4] = { 0, 2000, 50000, 300000 };
@@ -207,7 +248,7 @@ static void dossier(int option, int filed, int first, int years, int planned, in
     start(&made);
     opening(option, filed < 0 ? draw(3) == 0 : filed, first, years, (int)keeps, total, areas);
     if (planned < 0 && lent && years < 19 && draw(2))
-        plan_year(draw(2) ? 0 : first - 1, records, kind, small);
+        plan_year(draw(2) ? 0 : first - 1, records, longest, small);
     for (int y = 0; y < years; y++) {
         int by_plan = (int)draw(10) < in_ten;
         mark("YR");
@@ -221,20 +262,20 @@ static void dossier(int option, int filed, int first, int years, int planned, in
                 split(total[r], 144, 8);
         }
         if (lent && (by_plan || draw(3) == 0))
-            plan_year(first + y, records, kind, small);
+            plan_year(first + y, records, longest, small);
         if (by_plan)
             mark("PL");
-        run(by_plan ? 0 : records < 0 ? (int)draw(62) : records, kind, share);
+        run(by_plan ? 0 : records < 0 ? (int)draw(62) : records, longest, share);
     }
     end();
     into = &plan;
     if (planned < 0 && lent && years < 19 && draw(2))
-        plan_year(draw(2) ? 65535 : first + years, records, kind, small);
+        plan_year(draw(2) ? 65535 : first + years, records, longest, small);
     if (lent)
         end();
 }
 
-static unsigned counts[15], positive, of_either_sign, with_stocks, with_plan;
+static unsigned counts[15], positive, of_either_sign, with_stocks, with_plan, with_residues;
 
 /* counts the reports with tonnes, and those with years of either sign */
 static void count_signs(const uint8_t *report, size_t n)
@@ -267,6 +308,28 @@ static uint32_t plainly(const struct bytes *d, const struct bytes *p, uint8_t *r
     return plain_reckon(d->s, d->n, p->s, p->n, result, room);
 }
 
+/* the bytes of the record that begins at a place; 0 where none does, or one is cut */
+static size_t record_bytes(const struct bytes *b, size_t at)
+{
+    static const struct { char mark[3]; size_t bytes; } sizes[] = {
+        { "VE", 15 }, { "NI", 14 }, { "FU", 11 }, { "LI", 11 }, { "CR", 21 }, { "YR", 6 }, { "CP", 1154 }, { "CD", 1154 },
+        { "PL", 2 },  { "PY", 4 },  { "EN", 2 },  { "HD", 6 },  { "ST", 26 }, { "PA", 98 }, { "DA", 98 },   { "MP", 578 },
+    };
+    for (size_t k = 0; b->n - at >= 2 && k < sizeof sizes / sizeof *sizes; k++)
+        if (memcmp(b->s + at, sizes[k].mark, 2) == 0)
+            return sizes[k].bytes <= b->n - at ? sizes[k].bytes : 0;
+    return 0;
+}
+
+static int has_residue(const struct bytes *b)
+{
+    size_t size;
+    for (size_t at = 0; (size = record_bytes(b, at)); at += size)
+        if (memcmp(b->s + at, "CR", 2) == 0)
+            return 1;
+    return 0;
+}
+
 static void same(const struct bytes *d, const struct bytes *p, size_t room)
 {
     static uint8_t proved[1500], plain[1500];
@@ -282,23 +345,11 @@ static void same(const struct bytes *d, const struct bytes *p, size_t room)
         count_signs(proved, d->s[5]);
         with_stocks += memcmp(d->s + 6, "ST", 2) == 0;
         with_plan += plainly(d, &none, plain, room) == KH_AM004_REFUSED_PLANNED;
+        with_residues += has_residue(d);
     }
 }
 
 static size_t some_room(void) { return draw(2) ? 1312 : draw(1400); }
-
-/* the bytes of the record that begins at a place; 0 where none does, or one is cut */
-static size_t record_bytes(const struct bytes *b, size_t at)
-{
-    static const struct { char mark[3]; size_t bytes; } sizes[] = {
-        { "VE", 15 }, { "NI", 14 }, { "FU", 11 }, { "LI", 11 }, { "YR", 6 }, { "CP", 1154 }, { "CD", 1154 }, { "PL", 2 },
-        { "PY", 4 }, { "EN", 2 }, { "HD", 6 }, { "ST", 26 }, { "PA", 98 }, { "DA", 98 }, { "MP", 578 },
-    };
-    for (size_t k = 0; b->n - at >= 2 && k < sizeof sizes / sizeof *sizes; k++)
-        if (memcmp(b->s + at, sizes[k].mark, 2) == 0)
-            return sizes[k].bytes <= b->n - at ? sizes[k].bytes : 0;
-    return 0;
-}
 
 /* whether two records of a year, or of a planned one, are equal in mark and all fields */
 static int has_equal(const struct bytes *b)
@@ -308,7 +359,7 @@ static int has_equal(const struct bytes *b)
     for (size_t at = 0; (size = record_bytes(b, at)); at += size) {
         if (memcmp(b->s + at, "YR", 2) == 0 || memcmp(b->s + at, "PY", 2) == 0)
             records = 0;
-        if (size < 11 || size > 15) /* no activity record */
+        if (size < 11 || size > 21) /* no activity record */
             continue;
         for (size_t k = 0; k < records; k++)
             if (memcmp(b->s + year[k], b->s + at, size) == 0)
@@ -318,7 +369,7 @@ static int has_equal(const struct bytes *b)
     return 0;
 }
 
-static const char *const marks[14] = { "HD", "ST", "PA", "DA", "MP", "YR", "CP", "CD", "FU", "EN", "LI", "PL", "PY", "VE" };
+static const char *const marks[15] = { "HD", "ST", "PA", "DA", "MP", "YR", "CP", "CD", "FU", "EN", "LI", "PL", "PY", "VE", "CR" };
 
 /* makes room for n bytes at a place */
 static void insert(struct bytes *b, size_t at, size_t n)
@@ -333,18 +384,44 @@ static void copy(struct bytes *b, const struct bytes *of)
     b->n = of->n;
 }
 
+/* area and yield at their limit, above it, and with products that 32 bits do not hold; and whether they are in range */
+static const struct { uint64_t area, yield; int sound; } products[] = {
+    { 10000, 10000, 1 }, { 100000000, 1, 1 },  { 9999, 10001, 1 },  { 0, 4294967295, 1 }, { 4294967295, 0, 1 },
+    { 10000, 10001, 0 }, { 100000001, 1, 0 },  { 9999, 10002, 0 },  { 1, 4294967295, 0 }, { 4294967295, 1, 0 },
+    { 65536, 65536, 0 }, { 2, 2147483648, 0 }, { 6700417, 641, 0 }, { 4294967295, 4294967295, 0 },
+};
+
+/* a CR at a place, now and then with one or two fields at a limit, above it, or of any number */
+static void insert_residue(struct bytes *b, size_t at)
+{
+    static struct bytes one;
+    struct residue r = some_residue(1);
+    for (uint64_t times = draw(3); times--;) {
+        size_t k = draw(8), pair = draw(sizeof products / sizeof *products);
+        r.fields[k] = draw(4) ? greatest_residue.fields[k] + draw(2) : draw(65536);
+        if (k == 1 || k == 2) {
+            r.fields[1] = products[pair].area;
+            r.fields[2] = products[pair].yield;
+        }
+    }
+    start(&one);
+    put_residue(r);
+    insert(b, at, one.n);
+    memcpy(b->s + at, one.s, one.n);
+}
+
 /* a dossier spoilt in some way */
 static void spoil_dossier(void)
 {
     uint8_t *s = spoilt.s;
     size_t n = made.n, k;
     copy(&spoilt, &made);
-    switch (draw(10)) {
+    switch (draw(12)) {
     case 0: spoilt.n = draw(n + 1); break;
     case 1: s[n] = (uint8_t)draw(256); spoilt.n += 1 + draw(8); break;
-    case 2: memcpy(s + draw(n - 1), marks[draw(14)], 2); break;
+    case 2: memcpy(s + draw(n - 1), marks[draw(15)], 2); break;
     case 3: s[draw(draw(2) ? 12 : n)] = (uint8_t)draw(256); break;
-    case 4: memcpy(s + n - 2, marks[draw(14)], 2); spoilt.n += draw(8); break;
+    case 4: memcpy(s + n - 2, marks[draw(15)], 2); spoilt.n += draw(8); break;
     case 5: /* stocks, one of them any number, before some record, mostly one of the first */
         k = made.begins[draw(4) ? draw(4) : draw((uint64_t)made.records)];
         insert(&spoilt, k, 26);
@@ -358,6 +435,14 @@ static void spoil_dossier(void)
         memcpy(s + k, "PL", 2);
         if (draw(2))
             spoilt.n = k + 2 + draw(2);
+        break;
+    case 7:
+    case 8: /* up to three CR before some record, and perhaps an end in the first */
+        k = made.begins[draw((uint64_t)made.records)];
+        for (uint64_t times = 1 + draw(3); times--;)
+            insert_residue(&spoilt, k);
+        if (draw(4) == 0)
+            spoilt.n = k + draw(22);
         break;
     default: /* a record with a wrong byte, and then its end or up to three bytes more */
         k = draw(2) ? draw((uint64_t)made.records) : draw(8);
@@ -419,11 +504,11 @@ static void spoil_lent(void)
     some_year(&from, &to);
     size_t n = plan.n, at = plan.begins[from], after = plan.begins[to];
     copy(b, &plan);
-    switch (draw(11)) {
+    switch (draw(13)) {
     case 0: b->n = draw(n + 1); break;
     case 1: b->s[n] = (uint8_t)draw(256); b->n += 1 + draw(8); break;
     case 2: b->s[draw(n)] = (uint8_t)draw(256); break;
-    case 3: memcpy(b->s + plan.begins[draw((uint64_t)plan.records)], marks[draw(14)], 2); break;
+    case 3: memcpy(b->s + plan.begins[draw((uint64_t)plan.records)], marks[draw(15)], 2); break;
     case 4: b->s[at + 3] = (uint8_t)(b->s[at + 3] + draw(3) - 1); break;
     case 5: /* sixty records in some year, or one more */
         for (int k = to - from - 1 - (int)draw(2); from < to && k < 60; k++) {
@@ -442,6 +527,12 @@ static void spoil_lent(void)
         break;
     case 8: more_years(20 + (int)draw(2)); break;
     case 9: copy(b, draw(2) ? &made : &none); break;
+    case 10:
+    case 11: /* up to three CR at some place of some year */
+        from += from < to ? 1 + (int)draw((uint64_t)(to - from)) : 0;
+        for (uint64_t times = 1 + draw(3); times--;)
+            insert_residue(b, plan.begins[from]);
+        break;
     default: /* a record with a wrong byte, and perhaps its end */
         from = (int)draw((uint64_t)plan.records);
         b->s[plan.begins[from] + draw(16)] = (uint8_t)draw(256);
@@ -464,6 +555,8 @@ static void expect(uint32_t due, size_t room)
     uint32_t answer = proved_reckon(&made, &plan, result, room);
     if (answer != due)
         differ(&made, &plan, "an edge", answer, due, room);
+    if (plainly(&made, &plan, result, room) != due)
+        differ(&made, &plan, "an edge that plain C answers otherwise", answer, due, room);
 }
 
 /* records whose emissions are these: diesel as long as there is much, and urea, each time a little less than before */
@@ -485,7 +578,7 @@ static void at_limit(void)
 {
     static uint8_t report[1312];
     int first = 2000 + (int)draw(201), years = 1 + (int)draw(20), over = draw(2) ? (int)draw((uint64_t)years) : years;
-    dossier(1 + (int)draw(2), -1, first, years, 1, 0, -1);
+    dossier(1 + (int)draw(2), -1, first, years, 1, 0, 0);
     if (plainly(&made, &plan, report, sizeof report)) /* a year without other emissions */
         return;
     start(&plan);
@@ -512,7 +605,7 @@ static void expect_stock(uint32_t due, int class, unsigned stock)
 /* the limits of the stocks, and bytes that end in ST and with it */
 static void stock_edges(void)
 {
-    dossier(1, 1, 2020, 1, 0, 0, -1);
+    dossier(1, 1, 2020, 1, 0, 0, 0);
     for (int c = 0; c < 11; c++) {
         expect_stock(11, c, 50001);
         expect_stock(11, c, 65535);
@@ -533,7 +626,7 @@ static void planned_year(void)
 {
     static uint8_t report[1312];
     do
-        dossier(1, 0, 2020, 1, 1, 0, -1);
+        dossier(1, 0, 2020, 1, 1, 0, 0);
     while (plainly(&made, &plan, report, sizeof report));
 }
 
@@ -571,11 +664,11 @@ static void plan_forms(void)
     static const struct { int years[2]; uint32_t due; } pairs[] = {
         { { 0, 65535 }, 0 }, { { 255, 256 }, 0 }, { { 0, 0 }, 12 }, { { 256, 255 }, 12 }, { { 65535, 65535 }, 12 },
     };
-    dossier(1, 0, 2020, 1, 0, 0, -1);
+    dossier(1, 0, 2020, 1, 0, 0, 0);
     for (size_t k = 0; k < sizeof pairs / sizeof *pairs; k++) {
         start(&plan);
-        plan_year(pairs[k].years[0], 0, -1, 1);
-        plan_year(pairs[k].years[1], 0, -1, 1);
+        plan_year(pairs[k].years[0], 0, 0, 1);
+        plan_year(pairs[k].years[1], 0, 0, 1);
         end();
         expect(pairs[k].due, 96);
     }
@@ -591,20 +684,160 @@ static void plan_forms(void)
         }
 }
 
+/* a year's records, and EN where none is cut */
+static struct bytes filed_run;
+
+/* They follow made, which lacks EN, and then stand in a plan beside it, where every fault but 14 is 12. */
+static void expect_records(uint32_t due)
+{
+    static const uint8_t year[4] = { 'P', 'Y', 2020 >> 8, 2020 & 255 };
+    size_t n = made.n;
+    memcpy(made.s + n, filed_run.s, filed_run.n);
+    made.n = n + filed_run.n;
+    expect(due, 96);
+    memcpy(made.s + n, "EN", 2);
+    made.n = n + 2;
+    memcpy(plan.s, year, 4);
+    memcpy(plan.s + 4, filed_run.s, filed_run.n);
+    plan.n = 4 + filed_run.n;
+    expect(due == 0 || due == 14 ? due : 12, 96);
+    plan.n = 0;
+    made.n = n;
+}
+
+static void expect_residue(uint32_t due, struct residue r)
+{
+    start(&filed_run);
+    put_residue(r);
+    end();
+    expect_records(due);
+}
+
+/* the limits of each field of CR, and of area × yield */
+static void residue_limits(void)
+{
+    struct residue r = greatest_residue;
+    for (int k = 0; k < 8; k++, r = greatest_residue) {
+        if (k == 1 || k == 2)
+            continue;
+        expect_residue(0, r);
+        r.fields[k]++;
+        expect_residue(8, r);
+        r.fields[k] = k ? 65535 : 255;
+        expect_residue(8, r);
+        r.fields[k] = 0;
+        expect_residue(k ? 0 : 8, r);
+    }
+    for (size_t k = 0; k < sizeof products / sizeof *products; k++) {
+        r.fields[1] = products[k].area;
+        r.fields[2] = products[k].yield;
+        expect_residue(products[k].sound ? 0 : 8, r);
+    }
+}
+
+/* what CR emits: nothing, the least, a whole number of grams, a little more, and the greatest by either crop */
+static void residue_emissions(void)
+{
+    static const struct { struct residue r; uint64_t due; } cases[] = {
+        { { { 1, 0, 10000, 10000, 500, 500, 10000, 10000 } }, 0 },
+        { { { 1, 1, 1, 1, 1, 0, 1, 0 } }, 1 },
+        { { { 1, 100, 10000, 1, 100, 1, 10000, 0 } }, 573650 },
+        { { { 1, 100, 10000, 1, 100, 1, 10000, 1 } }, 573651 },
+        { { { 1, 10000, 10000, 10000, 500, 500, 10000, 10000 } }, 5736500000000 },
+        { { { 2, 10000, 10000, 10000, 500, 500, 10000, 10000 } }, 2458500000000 },
+    };
+    static uint8_t report[1500];
+    size_t n = made.n;
+    for (size_t k = 0; k < sizeof cases / sizeof *cases; k++, made.n = n) {
+        start(&made);
+        made.n = n;
+        put_residue(cases[k].r);
+        end();
+        expect(0, 96);
+        proved_reckon(&made, &plan, report, 96);
+        if (number(report + KH_AM004_AT_ACTIVITY) != cases[k].due)
+            fail("the emissions of a CR");
+    }
+}
+
+/* two CR, one field apart or equal; and a third, which its mark decides */
+static void residue_runs(void)
+{
+    static const uint64_t shares[3] = { 2, 0, 10001 }; /* another one, that of the first, one out of range */
+    struct residue r = greatest_residue;
+    for (int k = 0; k <= 8; k++, r = greatest_residue) {
+        start(&filed_run);
+        put_residue(r);
+        if (k < 8)
+            r.fields[k]--;
+        put_residue(r);
+        end();
+        expect_records(k < 8 ? 0 : 14);
+        for (filed_run.n = 41; filed_run.n >= 21; filed_run.n--) /* the second cut */
+            expect_records(1);
+    }
+    for (int k = 0; k < 3; k++) {
+        start(&filed_run);
+        for (int j = 0; j < 3; j++) {
+            r.fields[3] = j < 2 ? (uint64_t)j : shares[k];
+            put_residue(r);
+        }
+        end();
+        for (; filed_run.n >= 44; filed_run.n--) /* whole, and cut down to its mark */
+            expect_records(9);
+        expect_records(1);
+    }
+}
+
+/* CR before and after VE, sixty in all or one more */
+static void residue_counts(void)
+{
+    struct residue r = greatest_residue;
+    for (int total = 60; total <= 61; total++)
+        for (int residues = 1; residues <= 2; residues++)
+            for (int before = 0; before <= residues; before++) {
+                start(&filed_run);
+                for (int k = 0, j = 0; k < total; k++) {
+                    if (k < before || k >= total - residues + before) {
+                        r.fields[3] = (uint64_t)j++;
+                        put_residue(r);
+                        continue;
+                    }
+                    mark("VE");
+                    put(1, 1);
+                    put((uint64_t)k, 4);
+                    put(0, 8);
+                }
+                end();
+                expect_records(total == 60 ? 0 : 9);
+            }
+}
+
+/* CR in a dossier of one year, and in a plan (#106) */
+static void residue_edges(void)
+{
+    dossier(1, 0, 2020, 1, 0, 0, 0);
+    made.n -= 2;
+    residue_limits();
+    residue_emissions();
+    residue_runs();
+    residue_counts();
+}
+
 /* document 01's unmarked edges */
 static void edges(void)
 {
-    dossier(1, 0, 2020, 20, 0, 0, -1);
+    dossier(1, 0, 2020, 20, 0, 0, 0);
     expect(0, 1312);
     made.s[5] = 21;
     expect(3, 1312);
-    dossier(2, 0, 2020, 1, 0, 0, -1);
+    dossier(2, 0, 2020, 1, 0, 0, 0);
     expect(10, 95);
     expect(0, 96);
     for (size_t at = 251; made.s[at]-- == 0; at--) /* the last cell of the first row, one less: 999,999 */
         ;
     expect(5, 1312);
-    dossier(1, 0, 2100, 1, 0, 0, -1);
+    dossier(1, 0, 2100, 1, 0, 0, 0);
     expect(0, 96);
     made.s[206] = 366 >> 8;
     made.s[207] = 366 & 255;
@@ -614,7 +847,7 @@ static void edges(void)
 /* the first 65,536 bytes, which `yearsheet` reads and the host of dossier and plan, are answered as the whole input is */
 static void long_inputs(void)
 {
-    static const char *const after[8] = { "EN", "YR", "FU", "VE", "NI", "LI", "PL", "??" };
+    static const char *const after[9] = { "EN", "YR", "FU", "VE", "NI", "LI", "CR", "PL", "??" };
     static uint8_t result[1500];
     struct bytes *b = &spoilt;
     for (int k = 0; k < 2000; k++) {
@@ -623,9 +856,9 @@ static void long_inputs(void)
         copy(b, &made);
         for (size_t at = made.n; at < sizeof b->s; at++)
             b->s[at] = (uint8_t)draw(256);
-        memcpy(b->s + made.n - 2, after[k % 8], 2);
+        memcpy(b->s + made.n - 2, after[k % 9], 2);
         if (draw(2))
-            memcpy(b->s + made.n + draw(4), after[draw(8)], 2);
+            memcpy(b->s + made.n + draw(4), after[draw(9)], 2);
         if (draw(4) == 0)
             b->s[draw(made.n)] ^= (uint8_t)draw(256);
         b->n = 65537 + draw(4000);
@@ -707,9 +940,9 @@ static void compare_bytes(void)
 {
     for (int k = 0; k < 3000; k++) {
         int first = 2000 + (int)draw(201);
-        dossier(1 + (int)draw(2), -1, first, 1 + (int)draw(20), -1, -1, -1);
+        dossier(1 + (int)draw(2), -1, first, 1 + (int)draw(20), -1, -1, 0);
         same(&made, &plan, some_room());
-        dossier(1 + (int)draw(2), -1, first, 1 + (int)draw(20), -1, (int)draw(5), -1);
+        dossier(1 + (int)draw(2), -1, first, 1 + (int)draw(20), -1, (int)draw(5), 0);
         same(&made, &plan, 1312);
         for (int s = 0; s < 10; s++)
             spoil();
@@ -720,15 +953,16 @@ static void compare_bytes(void)
     printf("same number and same bytes; how often each number came:");
     for (int k = 0; k <= 13; k++)
         printf(" %u", counts[k]);
-    printf("\nof the accepted ones %u had tonnes, %u years of either sign, %u stocks of their own, %u planned years\n", positive,
-           of_either_sign, with_stocks, with_plan);
+    printf("\nof the accepted ones %u had tonnes, %u years of either sign, %u stocks of their own, %u planned years, %u CR\n", positive,
+           of_either_sign, with_stocks, with_plan, with_residues);
     for (int k = 0; k <= 13; k++)
         if (!counts[k])
             fail("not every number came");
     if (counts[KH_AM004_REFUSED_REPEATED])
         fail("a year of the comparison has two equal records");
-    if (positive < counts[0] / 5 || of_either_sign < counts[0] / 20 || with_stocks < counts[0] / 5 || with_plan < counts[0] / 5)
-        fail("too few of the accepted dossiers had tonnes, years of either sign, stocks of their own, or planned years");
+    if (positive < counts[0] / 5 || of_either_sign < counts[0] / 20 || with_stocks < counts[0] / 5 || with_plan < counts[0] / 5 ||
+        with_residues < counts[0] / 5)
+        fail("too few of the accepted dossiers had tonnes, years of either sign, stocks of their own, planned years, or CR");
 }
 
 int main(int argc, char **argv)
@@ -739,6 +973,7 @@ int main(int argc, char **argv)
     stock_edges();
     plan_edges();
     plan_forms();
+    residue_edges();
     long_inputs();
     compare_bytes();
     longest_plan();

@@ -190,8 +190,9 @@ def dossier_sizes():
     if found != sizes:
         wrong(document, f"the records' sizes are {sizes}")
     opening, year = sizes["HD"] + sizes["PA"] + sizes["DA"], sizes["YR"] + sizes["CP"] + sizes["CD"]
-    shortest, longest = opening + year + sizes["EN"], opening + sizes["ST"] + sizes["MP"] + 20 * (year + 60 * sizes["VE"]) + sizes["EN"]
-    longest_plan = dossiers.MOST_PLANNED * (sizes["PY"] + 60 * sizes["VE"]) + sizes["EN"]
+    run = 58 * sizes["VE"] + 2 * sizes["CR"]
+    shortest, longest = opening + year + sizes["EN"], opening + sizes["ST"] + sizes["MP"] + 20 * (year + run) + sizes["EN"]
+    longest_plan = dossiers.MOST_PLANNED * (sizes["PY"] + run) + sizes["EN"]
     for name, size in (("shortest dossier", shortest), ("longest dossier", longest), ("longest plan", longest_plan)):
         if f"The {name} has {size:,} bytes" not in text:
             wrong(document, f"it does not say that the {name} has {size:,} bytes")
@@ -295,6 +296,12 @@ def method():
         _, ledger = reckoner.reckon(dossier, bytearray(160))
         figure = f"{ledger.total:,} g, {ledger.numbers()[-3]:,} tonnes"
         same(f"{figure} by newer stocks", figure in text, True)
+    _, ledger = reckoner.reckon((ROOT / "examples" / "fixing-crops.dossier").read_bytes(), bytearray(160))
+    crops = [(1, 320, 1650, 10000, 200, 60, 160, 140), (1, 210, 1130, 10000, 188, 55, 80, 80)]
+    crops += [(crop, 10000, 10000, 10000, 500, 500, 10000, 10000) for crop in (1, 2)]
+    emitted = [dossiers.grams([("CR", fields)]) for fields in crops]
+    for figure in [f"{grams:,} g" for grams in (*emitted, *(figures[2] for figures in ledger.years))] + [f"{ledger.total:,} g, {ledger.numbers()[-3]:,} tonnes"]:
+        same(f"{figure} of nitrogen-fixing crops", figure in text, True)
 
 
 def main():

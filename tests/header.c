@@ -131,6 +131,18 @@ static void spoilt(const char *fault, uint32_t due, const uint8_t *sound, size_t
     refused(fault, due, dossier, length, KH_AM004_REPORT_BYTES(1));
 }
 
+static const uint8_t residue[21] = { 'C', 'R', 1 };
+
+/* So many records from a place on, no two of them alike in their last byte; the place after them. */
+static size_t put_records(uint8_t *bytes, size_t n, int records, const uint8_t *record, size_t record_length)
+{
+    for (int k = 0; k < records; k++, n += record_length) {
+        memcpy(bytes + n, record, record_length);
+        bytes[n + record_length - 1] -= (uint8_t)k;
+    }
+    return n;
+}
+
 /* By case A, and by the longest dossier for the records that case A lacks. */
 static void test_refusals(const uint8_t *a, size_t length, const uint8_t *longest, size_t longest_length)
 {
@@ -153,6 +165,11 @@ static void test_refusals(const uint8_t *a, size_t length, const uint8_t *longes
         more[fuel + 11 * k + 10] -= (uint8_t)k;
     }
     refused("61 records", KH_AM004_REFUSED_RECORDS, more, length + 11 * 60, room);
+    size_t n = put_records(more, fuel, 3, residue, sizeof residue);
+    memcpy(more + n, "EN", 2);
+    refused("a third CR", KH_AM004_REFUSED_RECORDS, more, n + 2, room);
+    more[fuel + 2] = 3;
+    refused("CR of crop 3", KH_AM004_REFUSED_ACTIVITY, more, n + 2, room);
     refused("a report one byte short", KH_AM004_REFUSED_BUFFER, a, length, room - 1);
 }
 
@@ -167,18 +184,15 @@ static void test_null(const uint8_t *a, size_t length)
     expect("no dossier beside a plan cut", reckon(NULL, 0, (const uint8_t *)"E", 1, NULL, 0), KH_AM004_REFUSED_PLAN);
 }
 
-/* A plan of so many years from one on, with so many records in each, no two of them alike in their last byte. */
-static size_t make_plan(uint8_t *plan, int years, int first, int records, const uint8_t *record, size_t record_length)
+/* A plan of so many years from one on, with so many records in each, and so many CR after them. */
+static size_t make_plan(uint8_t *plan, int years, int first, int records, const uint8_t *record, size_t record_length, int residues)
 {
     size_t n = 0;
     for (int y = first; y < first + years; y++) {
         const uint8_t head[4] = { 'P', 'Y', (uint8_t)(y >> 8), (uint8_t)y };
         memcpy(plan + n, head, 4);
-        n += 4;
-        for (int k = 0; k < records; k++, n += record_length) {
-            memcpy(plan + n, record, record_length);
-            plan[n + record_length - 1] -= (uint8_t)k;
-        }
+        n = put_records(plan, n + 4, records, record, record_length);
+        n = put_records(plan, n, residues, residue, sizeof residue);
     }
     memcpy(plan + n, "EN", 2);
     return n + 2;
@@ -193,7 +207,7 @@ static void test_plan(const uint8_t *a, size_t length)
     memcpy(year, a, fuel);
     memcpy(year + fuel, "PLEN", 4);
 
-    size_t m = make_plan(plan, 3, 2019, 1, a + fuel, 11);
+    size_t m = make_plan(plan, 3, 2019, 1, a + fuel, 11, 0);
     expect("case A", reckon(a, length, NULL, 0, own, room), KH_AM004_ACCEPTED);
     expect("case A by a plan", reckon(year, n, plan, m, planned, room), KH_AM004_ACCEPTED);
     expect("the report by a plan", memcmp(own, planned, room), 0);
@@ -206,13 +220,13 @@ static void test_plan(const uint8_t *a, size_t length)
 
     refused("PL without a plan", KH_AM004_REFUSED_PLANNED, year, n, room);
     refused_by("PL and a plan without years", KH_AM004_REFUSED_PLANNED, year, n, (const uint8_t *)"EN", 2, room);
-    m = make_plan(plan, 3, 2021, 1, a + fuel, 11);
+    m = make_plan(plan, 3, 2021, 1, a + fuel, 11, 0);
     refused_by("PL and a plan of other years", KH_AM004_REFUSED_PLANNED, year, n, plan, m, room);
-    m = make_plan(plan, 1, 2020, 55, a + fuel, 11);
+    m = make_plan(plan, 1, 2020, 55, a + fuel, 11, 0);
     expect("55 times the fuel, or little less", reckon(year, n, plan, m, planned, room), KH_AM004_ACCEPTED);
-    m = make_plan(plan, 1, 2020, 56, a + fuel, 11);
+    m = make_plan(plan, 1, 2020, 56, a + fuel, 11, 0);
     refused_by("56 times the fuel, or little less", KH_AM004_REFUSED_PLANNED, year, n, plan, m, 0);
-    m = make_plan(plan, 1, 2020, 2, a + fuel, 11);
+    m = make_plan(plan, 1, 2020, 2, a + fuel, 11, 0);
     memcpy(plan + 15, plan + 4, 11);
     refused_by("a plan with two equal records", KH_AM004_REFUSED_REPEATED, year, n, plan, m, room);
     refused_by("a plan with two equal records, beside case A", KH_AM004_REFUSED_REPEATED, a, length, plan, m, 0);
@@ -224,14 +238,16 @@ static void test_longest_plan(const uint8_t *a, size_t length)
     static const uint8_t vehicles[15] = { 'V', 'E', 1 };
     static uint8_t plan[KH_AM004_LONGEST_PLAN + 1024];
     uint8_t report[KH_AM004_REPORT_BYTES(1)] = { 0 };
-    size_t m = make_plan(plan, KH_AM004_MOST_YEARS, 2020, 60, vehicles, sizeof vehicles);
+    size_t m = make_plan(plan, KH_AM004_MOST_YEARS, 2020, 58, vehicles, sizeof vehicles, 2);
     expect("the longest plan", KH_AM004_LONGEST_PLAN, (long long)m);
     expect("the longest plan's answer", reckon(a, length, plan, m, report, sizeof report), KH_AM004_ACCEPTED);
     refused_by("a byte after the plan's EN", KH_AM004_REFUSED_PLAN, a, length, plan, m + 1, sizeof report);
-    m = make_plan(plan, KH_AM004_MOST_YEARS + 1, 2020, 0, vehicles, sizeof vehicles);
+    m = make_plan(plan, KH_AM004_MOST_YEARS + 1, 2020, 0, vehicles, sizeof vehicles, 0);
     refused_by("a plan of 21 years", KH_AM004_REFUSED_PLAN, a, length, plan, m, sizeof report);
-    m = make_plan(plan, KH_AM004_MOST_YEARS, 2020, 61, vehicles, sizeof vehicles);
+    m = make_plan(plan, KH_AM004_MOST_YEARS, 2020, 59, vehicles, sizeof vehicles, 2);
     refused_by("a plan of 61 records a year", KH_AM004_REFUSED_PLAN, a, length, plan, m, sizeof report);
+    m = make_plan(plan, KH_AM004_MOST_YEARS, 2020, 57, vehicles, sizeof vehicles, 3);
+    refused_by("a plan of three CR a year", KH_AM004_REFUSED_PLAN, a, length, plan, m, sizeof report);
 }
 
 static void print_numbers(void)

@@ -50,21 +50,37 @@ static int table(struct input *in, const char *mark, uint64_t *cell, int count, 
 static const unsigned fuel[3] = { 318630, 306999, 310059 }, lime[3] = { 132, 143, 220 };
 static const unsigned nitrogen[2][3] = { { 1325, 1425, 1225 }, { 625, 725, 525 } };
 
-/* 1: no activity record stands here; 0: one is read; otherwise -fault */
-static int activity(struct input *in, int before, uint64_t *grams)
+/* the fields of CR after its crop; its nitrogen is of source 3 */
+static int residue(struct input *in, uint64_t crop, uint64_t *grams)
 {
-    static const char *marks[4] = { "FU", "VE", "NI", "LI" };
-    static const int sizes[4] = { 9, 13, 12, 9 };
+    uint64_t area = field(in, 4), yield = field(in, 4), share = field(in, 2);
+    uint64_t above = field(in, 2), below = field(in, 2), above_content = field(in, 2), below_content = field(in, 2);
+    if (crop < 1 || crop > 2 || area * yield > 100000000 || share > 10000)
+        return -8;
+    if (above > 500 || below > 500 || above_content > 10000 || below_content > 10000)
+        return -8;
+    wide n = (wide)area * yield * share * (above * above_content + below * below_content);
+    *grams += up(n * nitrogen[crop - 1][2] * 3278, 7000000000000);
+    return 0;
+}
+
+/* 1: no activity record stands here; 0: one is read; otherwise -fault. residues counts the CR */
+static int activity(struct input *in, int before, int *residues, uint64_t *grams)
+{
+    static const char *marks[5] = { "FU", "VE", "NI", "LI", "CR" };
+    static const int sizes[5] = { 9, 13, 12, 9, 19 };
     int m = 0, fault;
-    while (m < 4 && !stands(in, marks[m]))
+    while (m < 5 && !stands(in, marks[m]))
         m++;
-    if (m == 4)
+    if (m == 5)
         return 1;
-    if (before == 60)
+    if (before == 60 || (m == 4 && ++*residues == 3))
         return -9;
     if ((fault = begin(in, marks[m], (size_t)sizes[m])))
         return -fault;
     uint64_t kind = field(in, 1);
+    if (m == 4)
+        return residue(in, kind, grams);
     if (m == 2) {
         uint64_t crop = field(in, 1), g = field(in, 8), content = field(in, 2);
         if (kind < 1 || kind > 3 || crop < 1 || crop > 2 || g > 10000000000 || content > 10000)
@@ -90,9 +106,9 @@ static int activity(struct input *in, int before, uint64_t *grams)
 static int activities(struct input *in, uint64_t *grams)
 {
     size_t begins[61];
-    int k = 0, fault;
+    int k = 0, residues = 0, fault;
     *grams = 0;
-    for (begins[0] = in->at; (fault = activity(in, k, grams)) == 0; begins[++k] = in->at)
+    for (begins[0] = in->at; (fault = activity(in, k, &residues, grams)) == 0; begins[++k] = in->at)
         for (int j = 0; j < k; j++)
             if (memcmp(in->s + begins[j], in->s + begins[k], in->at - begins[k]) == 0)
                 return 14;

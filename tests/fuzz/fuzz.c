@@ -15,7 +15,7 @@ struct input { const uint8_t *dossier, *plan; size_t dossier_len, plan_len; };
 static struct input divided(const uint8_t *data, size_t size)
 {
     size_t length = size < 2 ? SIZE_MAX : (size_t)(data[0] << 8 | data[1]);
-    if (length > KH_AM004_LONGEST_PLAN + 15)
+    if (length > KH_AM004_LONGEST_PLAN + 21)
         return (struct input){ data, NULL, size, 0 };
     if (length > size - 2)
         length = size - 2;

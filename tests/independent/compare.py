@@ -15,7 +15,8 @@ import sys
 
 import reckoner
 from dossiers import (END, GREATEST, PLANNED, activity, any_plan, bare, boundaries, encode, ending, forest, full, greatest,
-                      has_equal_records, long, other_plan, pieces, plan, planned, small, sound, spoiled, stops, typical, ways, zeros)
+                      has_equal_records, long, other_plan, pieces, plan, planned, small, sound, spoiled, stops, stops_at_residue, typical, ways,
+                      zeros)
 
 ROOT = pathlib.Path(__file__).resolve().parents[2]
 # What comes in the comparison. 14 does not: no year of it has two equal records (#105), and the vectors have that number.
@@ -113,7 +114,8 @@ def call_list(rng):
 
 # Comparing
 
-FAULTS = {"HD": 3, "ST": 11, "PA": 4, "DA": 4, "MP": 5, "YR": 6, "CP": 7, "CD": 7, "PL": 13, "FU": 8, "VE": 8, "NI": 8, "LI": 8}
+FAULTS = {"HD": 3, "ST": 11, "PA": 4, "DA": 4, "MP": 5, "YR": 6, "CP": 7, "CD": 7, "PL": 13, "FU": 8, "VE": 8, "NI": 8, "LI": 8,
+          "CR": 8}
 # Each fault in the last record, and after each record but EN: nothing, a byte, another mark.
 ENDINGS = {(number, mark, "nothing") for mark, number in FAULTS.items()} | {
     (number, mark, rest) for mark in FAULTS for number, rest in ((1, "nothing"), (1, "a byte"), (2, "another mark"))}
@@ -140,7 +142,7 @@ class Comparison:
         self.call, self.call_without = reckoning_call(library, "kh_am004_reckon_plan", 3), reckoning_call(library, "kh_am004_reckon", 2)
         self.yearsheet, self.ledgertrace, self.seed, self.rng = yearsheet, ledgertrace, seed, random.Random(seed)
         self.seen, self.sheets, self.kinds = {word: collections.Counter() for word in NUMBERS}, 0, collections.Counter()
-        self.endings, self.accepted = set(), collections.Counter()
+        self.endings, self.accepted, self.thirds = set(), collections.Counter(), collections.Counter()
 
     def fail(self, what, data, lent_plan=b""):
         path = ROOT / "target" / "difference"
@@ -166,17 +168,20 @@ class Comparison:
             return self.call_without(data, len(data), buffer, room)
         return self.call(data, len(data), lent_plan or self.rng.choice((b"", None)), len(lent_plan), buffer, room)
 
-    def count_accepted(self, data, ledger):
-        credited = [figures[-1] for figures in ledger.years]
+    def count_accepted(self, data, lent_plan, ledger):
+        credited, marks = [figures[-1] for figures in ledger.years], {mark for _, mark in boundaries(data)}
         self.accepted += collections.Counter({
             "all": 1, "tonnes": ledger.total >= 10**6, "either sign": min(credited) < 0 < max(credited), "stocks": data[6:8] == b"ST",
-            "planned": any(mark == "PL" for _, mark in boundaries(data))})
+            "planned": "PL" in marks, "residues": "CR" in marks,
+            "planned residues": "PL" in marks and any(mark == "CR" for _, mark in boundaries(lent_plan))})
 
     def reckoning(self, data, lent_plan, lengths):
         number, ledger = self.independent(lambda dossier, lent: reckoner.reckon(dossier, bytearray(1312), lent), data, lent_plan)
         self.endings.add((number, *ending(data)))
         if number == 0:
-            self.count_accepted(data, ledger)
+            self.count_accepted(data, lent_plan, ledger)
+        if number in (9, 12):
+            self.thirds[number] += stops_at_residue(data if number == 9 else lent_plan)
         for room in lengths:
             old = self.rng.randbytes(room + 8)
             buffer, due = ctypes.create_string_buffer(old, len(old)), bytearray(old[:room])
@@ -248,14 +253,18 @@ class Comparison:
         print(f"{sum(self.kinds.values())} dossiers, {buffers} buffers, {self.sheets} sheets and {sum(calls)} calls: all agree, seed {self.seed}")
         for word, numbers in NUMBERS.items():
             print(f"{word}:", ", ".join(f"{number} came {self.seen[word][number]} times" for number in numbers))
-        accepted, tonnes, either, stocks, by_plan = (self.accepted[name] for name in ("all", "tonnes", "either sign", "stocks", "planned"))
+        accepted, tonnes, either, stocks, by_plan, residues, by_plan_residues = (
+            self.accepted[name] for name in ("all", "tonnes", "either sign", "stocks", "planned", "residues", "planned residues"))
         print(f"of {accepted} accepted dossiers {tonnes} had tonnes, {either} years of either sign, {stocks} stocks of their own, "
-              f"{by_plan} planned years; {len(self.endings)} kinds of ending")
+              f"{by_plan} planned years, {residues} CR, {by_plan_residues} planned years and CR in the plan; {len(self.endings)} kinds of ending")
+        print(f"{self.thirds[9]} dossiers and {self.thirds[12]} plans had a third CR in a year")
         for word, numbers in NUMBERS.items():
             if set(numbers) != set(self.seen[word]):
                 sys.exit(f"{word}: numbers {sorted(self.seen[word])} came, not {list(numbers)}; seed {self.seed}")
         if tonnes < accepted / 7 or either < accepted / 10 or stocks < accepted / 5 or by_plan < accepted / 5:
             sys.exit(f"too few accepted dossiers had tonnes, years of either sign, stocks of their own, or planned years; seed {self.seed}")
+        if residues < accepted / 4 or by_plan_residues < accepted / 8 or min(self.thirds[9], self.thirds[12]) < sum(self.kinds.values()) / 100:
+            sys.exit(f"too few accepted dossiers had CR or planned ones, or too few dossiers and plans a third CR; seed {self.seed}")
         if not ENDINGS <= self.endings:
             sys.exit(f"these endings never came: {sorted(ENDINGS - self.endings)}; seed {self.seed}")
 

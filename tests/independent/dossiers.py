@@ -3,6 +3,7 @@
 A dossier is a list of records, a record its mark and its fields; a plan is another such list.
 """
 import itertools
+import math
 import struct
 
 from reckoner import CLASSES, STOCK, Cursor, days_of, read_activities, reckon, up
@@ -10,11 +11,16 @@ from reckoner import CLASSES, STOCK, Cursor, days_of, read_activities, reckon, u
 LIMIT = 10**12
 MOST_STOCK = 50000
 FIELDS = {"HD": "BHB", "ST": 12 * "H", "PA": 12 * "Q", "DA": 12 * "Q", "MP": 144 * "I", "YR": "HH", "CP": 144 * "Q", "CD": 144 * "Q",
-          "PL": "", "FU": "BQ", "VE": "BIII", "NI": "BBQH", "LI": "BQ", "EN": "", "PY": "H"}
+          "PL": "", "FU": "BQ", "VE": "BIII", "NI": "BBQH", "LI": "BQ", "CR": "BIIHHHHH", "EN": "", "PY": "H"}
 BITS = {"B": 8, "H": 16, "I": 32, "Q": 64}
 WITH_FIELDS = [mark for mark, form in FIELDS.items() if form]
 SUMS = ("PA", "DA", "MP", "CP", "CD")
-GREATEST = {"FU": [3, LIMIT], "VE": [3, 1000, 1000000, 100000], "NI": [3, 2, 10**10, 10000], "LI": [3, LIMIT]}
+MOST_WIDE = 2**32 - 1
+GREATEST = {"FU": [3, LIMIT], "VE": [3, 1000, 1000000, 100000], "NI": [3, 2, 10**10, 10000], "LI": [3, LIMIT],
+            "CR": [2, MOST_WIDE, MOST_WIDE, 10000, 500, 500, 10000, 10000]}
+# The fields whose product is limited too, and its limit.
+PRODUCTS = {"VE": ((1, 2, 3), LIMIT), "CR": ((1, 2), 10**8)}
+MOST_RESIDUES = 2
 END, PLANNED = ("EN", []), ("PL", [])
 MOST_PLANNED = 20
 
@@ -143,24 +149,34 @@ def any_amount(amounts, rng):
 def activity(rng, amount=None, mark=None):
     """A record in range; amount picks each quantity from the least and the greatest that it may be."""
     mark = mark or rng.choice(list(GREATEST))
-    kinds, amounts = (2, 2) if mark == "NI" else (1, len(GREATEST[mark]) - 1)
+    kinds = 2 if mark == "NI" else 1
     fields = [rng.randint(1, top) for top in GREATEST[mark][:kinds]] + GREATEST[mark][kinds:]
-    product = 1
-    for f in rng.sample(range(kinds, kinds + amounts), amounts):
-        top = min(fields[f], LIMIT // product) if mark == "VE" else fields[f]
+    order = rng.sample(range(kinds, len(fields)), len(fields) - kinds)
+    factors, most = PRODUCTS.get(mark, ((), 0))
+    if mark == "CR":  # the first of area and yield mostly leaves the other some of their product
+        fields[min(factors, key=order.index)] = rng.choice((100, 10**4, 10**6, most, MOST_WIDE))
+    picked = []
+    for f in order:
+        product = math.prod(picked) if f in factors and picked else 0
+        top = min(fields[f], most // product) if product else fields[f]
         fields[f] = amount((0, top)) if amount else any_amount((0, top), rng)
-        product *= max(fields[f], 1)
+        picked += [fields[f]] if f in factors else []
     return mark, fields
 
 
 def run_of(rng, count, amount=None, others=()):
-    """So many records in range, no two of them equal (#105), and none equal to one of the others."""
+    """So many records in range, no two of them equal (#105), none equal to one of the others, and at most two of them CR (#106)."""
     run = []
     while len(run) < count:
         record = activity(rng, amount)
-        if record not in run and record not in others:
+        if record not in run and record not in others and (record[0] != "CR" or residues_in(run) < MOST_RESIDUES):
             run.append(record)
+    rng.shuffle(run)
     return run
+
+
+def residues_in(run):
+    return sum(mark == "CR" for mark, _ in run)
 
 
 def stocks(rng, amount=None):
@@ -265,7 +281,7 @@ def other_plan(rng, listed):
 
 def slot(kind, count, average, rate):
     """The slot of a VE among the 1,021 of the filter by which the proved reckoner looks for equal records (#105)."""
-    return ((((rate * 2**20 + average) * 2**10 + count) * 4 + kind) * 4 + 1) % 1021
+    return ((((rate * 2**20 + average) * 2**10 + count) * 4 + kind) * 8 + 1) % 1021
 
 
 def of_one_slot(count, rate=100000):
@@ -332,9 +348,17 @@ def activity_edge(rng, records):
     return changed(records, k, {f: rng.choice((0, top[f], top[f] + 1, -1))})
 
 
+PRODUCT_EDGES = {
+    "VE": ((1000, 1000000, 1000), (1000, 1000000, 1001), (1000, 10001, 100000), (11, 1000000, 100000)),
+    "CR": ((10000, 10000), (10000, 10001), (1, 10**8), (10**8 + 1, 1), (17, 5882353), (65536, 65536), (2**31, 2), (MOST_WIDE, 0), (0, MOST_WIDE),
+           (MOST_WIDE, 1), (MOST_WIDE, MOST_WIDE))}
+
+
 def product_edge(rng, records):
-    count, average, each = rng.choice(((1000, 1000000, 1000), (1000, 1000000, 1001), (1000, 10001, 100000), (11, 1000000, 100000)))
-    return changed(records, pick(rng, records, ["VE"]), {1: count, 2: average, 3: each})
+    """Factors whose product is the greatest, just above it, or wraps to one in range."""
+    k = pick(rng, records, PRODUCTS)
+    mark = records[k][0]
+    return changed(records, k, dict(zip(PRODUCTS[mark][0], rng.choice(PRODUCT_EDGES[mark]))))
 
 
 def misplaced(rng, records):
@@ -384,6 +408,25 @@ def crowded(rng, records):
     return records[:k + 1] + run_of(rng, 61, others=records) + records[k + 1:]
 
 
+def three_residues(rng, records):
+    """The records with three different CR in a year, at any places among at most 57 others, and the index of the third."""
+    k = pick(rng, records, ["CD", "PY"])
+    end = next((j for j in range(k + 1, len(records)) if records[j][0] not in GREATEST), len(records))
+    run = [record for record in records[k + 1:end] if record[0] != "CR"][:57]
+    while residues_in(run) <= MOST_RESIDUES:
+        record = activity(rng, mark="CR")
+        if record not in run:
+            run.insert(rng.randint(0, len(run)), record)
+    third = [j for j, record in enumerate(run) if record[0] == "CR"][MOST_RESIDUES]
+    return records[:k + 1] + run + records[end:], k + 1 + third
+
+
+def third_residue(rng, records):
+    """A year with a third CR, in half of them with a field at an edge."""
+    records, k = three_residues(rng, records)
+    return records[:k] + rng.choice(([records[k]], activity_edge(rng, [records[k]]))) + records[k + 1:]
+
+
 # Ways to spoil the bytes
 
 def cut(rng, records):
@@ -415,6 +458,12 @@ def cut_crowd(rng, records):
     return encode(crowd)[:places(crowd)[-2] + rng.randint(1, 9)]
 
 
+def cut_residue(rng, records):
+    """A third CR that is cut, mostly right after its mark."""
+    records, k = three_residues(rng, records)
+    return encode(records)[:places(records)[k] + rng.choice((1, 2, 2, 2, 3, rng.randint(4, 20)))]
+
+
 def padded(rng, records):
     """Bytes beyond: one, two, some, another EN, another record, or more than any dossier has."""
     some, record = rng.randbytes(rng.randint(3, 40)), encode([records[pick(rng, records)]])
@@ -441,11 +490,11 @@ def two_faults(rng, records):
 
 
 RECORD_WAYS = {off_by_one: WITH_FIELDS, wrapped: SUMS, head_edge: ["HD"], stock_edge: ["ST"], year_edge: ["YR"], activity_edge: GREATEST,
-               product_edge: ["VE"], misplaced: FIELDS, stray_stocks: FIELDS, stray_planned: FIELDS, planned_year_edge: ["PY"],
-               many_planned: ["PY"], other_years: ["YR"], crowded: ["CD", "PY"]}
+               product_edge: PRODUCTS, misplaced: FIELDS, stray_stocks: FIELDS, stray_planned: FIELDS, planned_year_edge: ["PY"],
+               many_planned: ["PY"], other_years: ["YR"], crowded: ["CD", "PY"], third_residue: ["CD", "PY"]}
 FIELD_WAYS = (off_by_one, wrapped, head_edge, stock_edge, year_edge, activity_edge, product_edge, planned_year_edge)
-BYTE_WAYS = {cut: FIELDS, stopped: WITH_FIELDS, cut_crowd: ["CD", "PY"], padded: FIELDS, flipped: FIELDS, other_mark: FIELDS,
-             two_faults: FIELDS}
+BYTE_WAYS = {cut: FIELDS, stopped: WITH_FIELDS, cut_crowd: ["CD", "PY"], cut_residue: ["CD", "PY"], padded: FIELDS, flipped: FIELDS,
+             other_mark: FIELDS, two_faults: FIELDS}
 
 
 def ways(records):
@@ -487,6 +536,20 @@ def has_equal_records(data):
         if mark in GREATEST and record in run:
             return True
         run.add(record)
+    return False
+
+
+def stops_at_residue(data):
+    """Whether the mark of a third CR of a year or of a planned one is there, and no 61st record before it (#106)."""
+    count, residues = 0, 0
+    for at in (0, *(end for end, _ in boundaries(data))):
+        mark = data[at:at + 2].decode("latin-1")
+        if mark not in GREATEST:
+            count, residues = 0, 0
+        elif count == 60 or mark == "CR" and residues == MOST_RESIDUES:
+            return count < 60
+        else:
+            count, residues = count + 1, residues + (mark == "CR")
     return False
 
 

@@ -19,12 +19,13 @@ CLOSING = "total tonnes balance belt_balance".split()
 
 
 def twenty_years(rng):
-    """Twenty years under Option 2 by filed stocks, with sixty VE in each, every fifth one bad, the belt always at a loss."""
+    """Twenty years under Option 2 by filed stocks, with 58 VE and two CR in each, every fifth one bad, the belt always at a loss."""
     project, belt = [rng.randint(1, 10**11) for _ in range(12)], [rng.randint(1, 10**8) * (k < 8) for k in range(12)]
     stocks = [rng.randint(1, 50000) for _ in range(11)] + [0]
     records = opening(2, 2007, 20, project, belt, stay_but(rng, [1000000] * 12, 100000), stocks)
     for y in range(20):
-        run = [("VE", [rng.randint(1, 3), *(rng.randint(1, 1000) for _ in range(3))]) for _ in range(60)]
+        run = [("VE", [rng.randint(1, 3), *(rng.randint(1, 1000) for _ in range(3))]) for _ in range(58)]
+        run += [("CR", [rng.randint(1, 2), rng.randint(1, 500), rng.randint(1, 5000), *(rng.randint(1, 500) for _ in range(5))]) for _ in range(2)]
         records += year(2007 + y, 300 + y, stay_but(rng, project, 200000 if y % 5 == 4 else 1000), stay_but(rng, belt, 900000), *run)
     return records + [END]
 

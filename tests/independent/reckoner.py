@@ -19,7 +19,7 @@ PAIRS = [(i, j) for i in CLASSES for j in CLASSES]
 FUEL = {1: 318630, 2: 306999, 3: 310059}
 LIMING = {1: 132, 2: 143, 3: 220}
 NITROGEN = {(1, 1): 1325, (2, 1): 1425, (3, 1): 1225, (1, 2): 625, (2, 2): 725, (3, 2): 525}
-ACTIVITY_FIELDS = {b"FU": (1, 8), b"VE": (1, 4, 4, 4), b"NI": (1, 1, 8, 2), b"LI": (1, 8)}
+ACTIVITY_FIELDS = {b"FU": (1, 8), b"VE": (1, 4, 4, 4), b"NI": (1, 1, 8, 2), b"LI": (1, 8), b"CR": (1, 4, 4, 2, 2, 2, 2, 2)}
 
 
 class Refused(Exception):
@@ -94,6 +94,12 @@ def activity(cursor):
         source, crop, grams, content = values
         require(1 <= source <= 3 and 1 <= crop <= 2 and grams <= 10**10 and content <= 10000, 8)
         return record, Fraction(grams * content * NITROGEN[source, crop] * 3278, 7000000000)
+    if mark == b"CR":  # nitrogen of crop residue, source 3 (#106)
+        crop, area, dry_matter, share, above, below, above_content, below_content = values
+        require(1 <= crop <= 2 and area * dry_matter <= 10**8 and max(above, below) <= 500, 8)
+        require(max(share, above_content, below_content) <= 10000, 8)
+        nitrogen = area * dry_matter * share * (above * above_content + below * below_content)
+        return record, Fraction(nitrogen * NITROGEN[3, crop] * 3278, 7 * 10**12)
     kind = values[0]
     grams = values[1]
     if mark == b"VE":
@@ -105,10 +111,12 @@ def activity(cursor):
 
 
 def read_activities(cursor):
-    """The exact grams of each record of a year or of a planned one. One that equals an earlier one in mark and all fields is 14 (#105)."""
+    """The exact grams of each record of a year or of a planned one. A third CR is 9 by its mark (#106), as a 61st record is; one that equals an
+    earlier one in mark and all fields is 14 (#105)."""
     records = {}
     while cursor.sees(ACTIVITY_FIELDS):
         require(len(records) < 60, 9)
+        require(not cursor.sees((b"CR",)) or sum(mark == b"CR" for mark, *_ in records) < 2, 9)
         record, grams = activity(cursor)
         require(record not in records, 14)
         records[record] = grams

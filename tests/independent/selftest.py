@@ -84,6 +84,21 @@ def test_planned_records():
             expect(holds(ledger), allowed, f"the gap is {what} its bound {which}")
 
 
+def test_residue_records():
+    """CR count in the bound as the other records do, in a year's own run and in a plan (#106)."""
+    head, (due,) = pieces(case_a())
+    tables, fuel = due[:3], due[3:]
+    residues = [("CR", [crop, 1, 1, 1, 1, 0, 1, 0]) for crop in (1, 2)]
+    for run, bound in ((residues[:1], "130792.48"), (residues, "130793.48"), (residues + fuel, "130794.48"), (residues[1:] + fuel, "130793.48")):
+        for piece, listed in ((tables + run, b""), (tables + [PLANNED], encode(plan((2020, run))))):
+            ledger, which = reckoner.Ledger(), f"of {len(run)} records with CR, {'planned' if listed else 'its own'}"
+            expect(ledger.open(encode(head)) == 0 and ledger.year(encode(piece), listed) == 0, True, f"a year {which} is given")
+            expect(ledger.bound() == Fraction(bound), True, f"the bound {which} is {ledger.bound()}, not {bound}")
+            emitted = Fraction(11473 * run.count(residues[0]) + 4917 * run.count(residues[1]), 2 * 10**10) + 318630 * run.count(*fuel)
+            exact = Fraction(4, 5) * (833569000 - Fraction(100430000000, 300) - emitted)
+            expect(ledger.exact == exact, True, f"the unrounded total {which} is {ledger.exact}, not {exact}")
+
+
 def test_regions():
     for name in ("project", "belt"):
         for years in (1, 2, 20):
@@ -146,6 +161,7 @@ def main():
     test_stocks()
     test_totals()
     test_planned_records()
+    test_residue_records()
     test_regions()
     test_calls()
     test_rounding()

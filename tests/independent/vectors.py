@@ -18,8 +18,8 @@ from typing import NamedTuple
 
 import reckoner
 from compare import closing, lent, reckoning_call, trace
-from dossiers import (END, FIELDS, GREATEST, LIMIT, MOST_PLANNED, MOST_STOCK, PLANNED, areas, boundaries, case_a, changed, encode, limestone,
-                      matrix, of_one_slot, opening, pieces, places, plan, stays, table, year)
+from dossiers import (END, FIELDS, GREATEST, LIMIT, MOST_PLANNED, MOST_RESIDUES, MOST_STOCK, MOST_WIDE, PLANNED, areas, boundaries, case_a,
+                      changed, encode, limestone, matrix, of_one_slot, opening, pieces, places, plan, stays, table, year)
 
 ROOT = pathlib.Path(__file__).resolve().parents[2]
 FIGURES = "reference project activity belt belt_reference displaced reduction credited total tonnes balance belt_balance".split()
@@ -27,8 +27,11 @@ FIGURES = "reference project activity belt belt_reference displaced reduction cr
 PROJECT, BELT = areas(E=700000, SE=200000, MR=90000, TP=10000), areas(E=50000, FR=30000, NF=20000)
 MATRIX = matrix(("E", "NF", 20000), ("E", "SE", 3000), ("SE", "E", 15000), ("MR", "E", 50000), ("FR", "NF", 97200), ("NF", "E", 1000))
 NEWER = areas(E=10250, SE=12990, P=6100, D=5230, B=1840, M=9012, MR=8777, FF=4120, FR=3905, TP=6033, PP=5871)
-RUN = [("FU", [2, 1234567]), ("VE", [1, 3, 12000, 90]), ("NI", [1, 2, 50000, 4600]), ("LI", [3, 10000])]
-LITTLE = [("FU", [2, 1234]), ("VE", [1, 3, 12, 90]), ("NI", [1, 2, 5000, 4600]), ("LI", [3, 1000])]  # 21,579 g, small enough for a planned year
+RUN = [("FU", [2, 1234567]), ("VE", [1, 3, 12000, 90]), ("NI", [1, 2, 50000, 4600]), ("LI", [3, 10000]),
+       ("CR", [1, 25, 1800, 9000, 110, 20, 160, 140])]
+# 27,332 g, small enough for a planned year
+LITTLE = [("FU", [2, 1234]), ("VE", [1, 3, 12, 90]), ("NI", [1, 2, 5000, 4600]), ("LI", [3, 1000]), ("CR", [2, 3, 400, 5000, 50, 10, 60, 90])]
+MOST_RESIDUE = ("CR", [1, 10000, 10000, 10000, 500, 500, 10000, 10000])  # 5,736,500,000,000 g, more than any other record emits
 
 
 # Dossiers
@@ -66,9 +69,9 @@ def base(option=1, n=1, run=RUN):
 
 
 def different(count, run):
-    """So many records, no two of them equal (#105): these in turn, each time with one more in the last field."""
-    turns = [(*run[k % len(run)], k // len(run)) for k in range(count)]
-    return [(mark, [*fields[:-1], fields[-1] + more]) for mark, fields, more in turns]
+    """So many records, no two of them equal (#105): these in turn, each time with one more in the last field, but CR only twice (#106)."""
+    turns = [(mark, fields, more) for more in range(count) for mark, fields in run if mark != "CR" or more < MOST_RESIDUES]
+    return [(mark, [*fields[:-1], fields[-1] + more]) for mark, fields, more in turns[:count]]
 
 
 def vehicles(grams):
@@ -76,6 +79,11 @@ def vehicles(grams):
     counts, rates = ([n for n in range(1, top + 1) if grams % n == 0] for top in (GREATEST["VE"][1], GREATEST["VE"][3]))
     factors = ((n, grams // (n * rate), rate) for n in counts for rate in rates if grams % (n * rate) == 0)
     return [("VE", [1, *given]) for given in factors if given[1] <= GREATEST["VE"][2]][:60]
+
+
+def greatest_run():
+    """Sixty different records that are as long and emit as much as they can: 58 VE and two CR."""
+    return vehicles(LIMIT)[:58] + [MOST_RESIDUE, ("CR", [1, 1, 10**8, *MOST_RESIDUE[1][3:]])]
 
 
 def planning(records, *numbers):
@@ -172,11 +180,11 @@ def longest():
     """As many records as there can be, all different, and amounts as great as they can be."""
     turned = matrix(("SE", "NF", 1000000), ("NF", "SE", 1000000))
     records = opening(2, 2200, 20, areas(SE=LIMIT), areas(SE=LIMIT), turned, areas(SE=MOST_STOCK))
-    for y, run in enumerate([vehicles(LIMIT)] * 20):
+    for y, run in enumerate([greatest_run()] * 20):
         lost = table(("SE", "NF", LIMIT - y), ("SE", "SE", y))
         records += year(2200 + y, reckoner.days_of(2200 + y), lost, lost, *run)
-    require(len(encode(records + [END])) == 65088, "the longest dossier has not 65,088 bytes")
-    return accepted("n 20, the longest dossier", records + [END])
+    require(len(encode(records + [END])) == 65328, "the longest dossier has not 65,328 bytes")
+    return accepted("n 20, the longest dossier", records + [END], activity=58 * 3186300000000 + 2 * 5736500000000)
 
 
 # Each cause at each place
@@ -195,7 +203,12 @@ def cuts():
     yield refused(1, "cut before YR, Option 2", before(base(2), "YR"))
     yield refused(1, "cut before the second YR", before(base(n=2), "YR", 1))
     yield refused(1, "a byte that begins no mark", b"?")
-    yield refused(1, "a byte that begins no mark after LI", before(base(), "EN") + b"?")
+    yield refused(1, "a byte that begins no mark after LI", before(base(), "CR") + b"?")
+    yield refused(1, "a byte that begins no mark after CR", before(base(), "EN") + b"?")
+
+
+# The records of RUN, and what follows each.
+FOLLOWING = (("FU", "VE"), ("VE", "NI"), ("NI", "LI"), ("LI", "CR"), ("CR", "EN"))
 
 
 def marks():
@@ -209,7 +222,7 @@ def marks():
     for place, data, due in spots:
         for mark in [mark for mark in (*FIELDS, *map(str.lower, due[:2]), "??") if mark not in due]:
             yield refused(2, f"{mark} {place}", data + mark.encode())
-    for mark, after in (("FU", "VE"), ("VE", "NI"), ("NI", "LI"), ("LI", "EN")):
+    for mark, after in FOLLOWING:
         for wrong in ("HD", "CD"):
             yield refused(2, f"{wrong} after {mark}", before(one, after) + wrong.encode())
     yield refused(2, "EN after the first of two years", before(base(n=2), "YR", 1) + b"EN")
@@ -324,11 +337,20 @@ def table_entries():
 
 
 FIELD_NAMES = {"FU": ("kind", "grams"), "VE": ("kind", "count", "average", "rate"), "NI": ("source", "crop", "grams", "content"),
-               "LI": ("material", "grams")}
+               "LI": ("material", "grams"),
+               "CR": ("crop", "area", "yield", "share", "above ratio", "below ratio", "above content", "below content")}
+# Areas and yields whose product is 10^8, just above it, and those whose product has 32 bits in which it would be in range.
+MOST_DRY = ((10000, 10000), (1, 10**8), (10**8, 1), (78125, 1280))
+MUCH_DRY = ((1, 10**8 + 1), (10**8 + 1, 1), (17, 5882353), (5882353, 17), (10000, 10001), (1, MOST_WIDE), (MOST_WIDE, 1))
+WRAPPED_DRY = ((65536, 65536), (2**31, 2), (2, 2**31), (65537, 65536), (641, 6700417), (2**24, 2**24), (MOST_WIDE, MOST_WIDE))
 
 
 def least(mark):
     return [1 if name in ("kind", "source", "crop", "material") else 0 for name in FIELD_NAMES[mark]]
+
+
+def by_two(records):
+    return [records[k:k + 2] for k in range(0, len(records), 2)]
 
 
 def singly(mark):
@@ -337,27 +359,34 @@ def singly(mark):
 
 
 def out_of_range():
-    """Records of which one field is out of range, or the product of VE, each with its name."""
+    """Records of which one field is out of range, or the product of VE or CR, each with its name; area and yield of CR have no limit of their own."""
     for mark, top in GREATEST.items():
         low = least(mark)
         for f, name in enumerate(FIELD_NAMES[mark]):
             for value in (0, top[f] + 1)[1 - low[f]:]:
-                yield f"{mark} {name} {value}", (mark, low[:f] + [value] + low[f + 1:])
+                if value <= MOST_WIDE or mark != "CR":
+                    yield f"{mark} {name} {value}", (mark, low[:f] + [value] + low[f + 1:])
     for count, average, rate in ((1000, 1000000, 1001), (1000, 1000000, 100000)):
         yield f"VE {count} x {average} x {rate}", ("VE", [1, count, average, rate])
+    for area, dry_matter in (*MUCH_DRY, *WRAPPED_DRY):
+        yield f"CR {area} x {dry_matter}", ("CR", [1, area, dry_matter, 0, 0, 0, 0, 0])
 
 
 def activities():
     for mark in GREATEST:
-        yield accepted(f"{mark} with each field at its greatest", emitting(*singly(mark)))
+        if mark != "CR":
+            yield accepted(f"{mark} with each field at its greatest", emitting(*singly(mark)))
+    for name, record in zip(FIELD_NAMES["CR"], singly("CR")):
+        yield accepted(f"CR with the greatest {name} alone", emitting(record), activity=0)
     for name, record in out_of_range():
         yield refused(8, name, emitting(record))
     for mark, f, value in (("FU", 1, 2**64 - 1), ("VE", 1, 2**32 - 1), ("NI", 2, 2**63)):
         yield refused(8, f"{mark} {FIELD_NAMES[mark][f]} {value}", put(base(), mark, {f: value}))
     yield accepted("VE 1000 x 1000000 x 1000", emitting(("VE", [1, 1000, 1000000, 1000])), activity=3186300000000)
-    yield accepted("zero quantities", emitting(("FU", [3, 0]), ("VE", [2, 0, 0, 0]), ("NI", [3, 2, 0, 0]), ("LI", [2, 0])), activity=0)
+    zeros = [("FU", [3, 0]), ("VE", [2, 0, 0, 0]), ("NI", [3, 2, 0, 0]), ("LI", [2, 0]), ("CR", [2, 0, 0, 0, 0, 0, 0, 0])]
+    yield accepted("zero quantities", emitting(*zeros), activity=0)
     two = base(n=2)
-    yield fault(8, "a fault in the first year's last record", two, "LI", {0: 0})
+    yield fault(8, "a fault in the first year's last record", two, "CR", {0: 0})
     yield fault(8, "a fault in the second year's first record", two, "FU", {0: 0}, 1)
 
 
@@ -383,7 +412,7 @@ def sixty():
     for mark in GREATEST:
         yield refused(9, f"61st mark {mark} alone", encode(full[:-1]) + mark.encode())
     yield refused(1, "one byte after 60 records", encode(full[:-1]) + b"F")
-    two, after = base(n=2, run=different(60, RUN[3:])), different(61, RUN[3:])[60:]
+    two, after = base(n=2, run=different(60, RUN[3:4])), different(61, RUN[3:4])[60:]
     yield accepted("60 records in each of two years", two)
     yield refused(9, "61 records in the second year", two[:-1] + after)
 
@@ -643,19 +672,20 @@ def plan_forms():
                         "255, 256 and 257": [(255, []), (256, []), (257, []), due], "2047 and 2048": [due, (2047, other), (2048, [])],
                         "20 years, its year the last": [*((1990 + k, other) for k in range(19)), due],
                         "20 years, its year the first": [due, *((2020 + k, other) for k in range(19))],
-                        "each field at its greatest": [due, (2020, [record for mark in GREATEST for record in singly(mark)])]}.items():
-        yield accepted(f"a plan of {name}", one, plan=plan(*years), activity=21579)
-        yield accepted(f"a plan of {name}, without PL", own, plan=plan(*years), activity=21579)
+                        "each field at its greatest": [due, (2020, [record for mark in GREATEST if mark != "CR" for record in singly(mark)]),
+                                                       *zip(range(2021, 2025), by_two(singly("CR")))]}.items():
+        yield accepted(f"a plan of {name}", one, plan=plan(*years), activity=27332)
+        yield accepted(f"a plan of {name}, without PL", own, plan=plan(*years), activity=27332)
     for mark, record in zip(GREATEST, LITTLE):
         yield accepted(f"a plan of {mark} alone", one, plan=plan((2019, [record])))
     for name, lent_plan in (("no plan", b""), ("EN alone", b"EN"), ("other records", plan((2019, vehicles(LIMIT))))):
-        yield accepted(f"{name} and a dossier without PL", own, plan=lent_plan, activity=21579)
+        yield accepted(f"{name} and a dossier without PL", own, plan=lent_plan, activity=27332)
     yield accepted("a planned year without records", one, plan=plan((2019, [])), activity=0)
     yield accepted("60 records in a planned year", one, plan=plan((2019, sixty)), activity=60 * 383)
     for first, place in ((2019, "first"), (2010, "tenth"), (2000, "last")):
-        longest_plan = plan(*((first + k, sixty) for k in range(MOST_PLANNED)))
-        require(len(encode(longest_plan)) == 18082, "the longest plan has not 18,082 bytes")
-        yield accepted(f"the longest plan, its year the {place}", one, plan=longest_plan, activity=60 * 383)
+        longest_plan = plan(*((first + k, sixty[:58] + [LITTLE[4], ("CR", [1, *LITTLE[4][1][1:]])]) for k in range(MOST_PLANNED)))
+        require(len(encode(longest_plan)) == 18322, "the longest plan has not 18,322 bytes")
+        yield accepted(f"the longest plan, its year the {place}", one, plan=longest_plan, activity=58 * 383 + 5753 + 13424)
 
 
 def plan_faults():
@@ -685,8 +715,8 @@ def plan_records():
     one = base(run=[PLANNED])
     for name, record in out_of_range():
         yield refused(12, f"{name} in a plan", one, plan=plan((2019, [record])))
-    for mark, f in (("FU", 0), ("VE", 1), ("NI", 3), ("LI", 1)):
-        wrong = changed([(mark, GREATEST[mark])], 0, {f: -1})
+    for mark, f in (("FU", 0), ("VE", 1), ("NI", 3), ("LI", 1), ("CR", 7)):
+        wrong = changed([(mark, least(mark) if mark == "CR" else GREATEST[mark])], 0, {f: -1})
         for name, years in (("last in its year", [(2019, LITTLE + wrong)]), ("first in its year", [(2019, wrong + LITTLE)]),
                             ("in the year before", [(2018, wrong), (2019, LITTLE)]), ("in the year after", [(2019, LITTLE), (2020, wrong)]),
                             ("60th in its year", [(2019, different(59, [("LI", [1, 0])]) + wrong)])):
@@ -696,7 +726,7 @@ def plan_records():
 def plan_cuts():
     """A plan cut after each of its bytes, and bytes after EN."""
     one, whole = base(run=[PLANNED]), encode(plan((2018, []), (2019, LITTLE)))
-    yield accepted(f"a plan of {len(whole)} bytes", one, plan=whole, activity=21579)
+    yield accepted(f"a plan of {len(whole)} bytes", one, plan=whole, activity=27332)
     for length in range(1, len(whole)):
         yield refused(12, f"a plan cut after {length} of its {len(whole)} bytes", one, plan=whole[:length])
     for name, more in (("a byte 0", b"\0"), ("a line feed", b"\n"), ("P", b"P"), ("E", b"E"), ("EN", b"EN"), ("PY", b"PY"), ("PL", b"PL"),
@@ -713,7 +743,8 @@ def plan_marks():
     one, whole = base(run=[PLANNED]), encode(plan((2018, []), (2019, LITTLE)))
     spots = places(plan((2018, []), (2019, LITTLE)))
     for place, at, due in (("at the start of a plan", 0, ["PY", "EN"]), ("after PY", spots[1], [*GREATEST, "PY", "EN"]),
-                           ("after a plan's FU", spots[3], [*GREATEST, "PY", "EN"]), ("after a plan's LI", spots[-2], [*GREATEST, "PY", "EN"])):
+                           ("after a plan's FU", spots[3], [*GREATEST, "PY", "EN"]), ("after a plan's LI", spots[-3], [*GREATEST, "PY", "EN"]),
+                           ("after a plan's CR", spots[-2], [*GREATEST, "PY", "EN"])):
         for mark in [mark for mark in (*FIELDS, *map(str.lower, due[-2:]), "fu", "??") if mark not in due]:
             yield refused(12, f"{mark} {place}", one, plan=whole[:at] + mark.encode() + whole[at:])
     for record in RUN:
@@ -802,7 +833,7 @@ def planned_lacking():
     yield refused(13, "PL in both years, a plan of the first and third", two, plan=plan((2019, LITTLE), (2021, LITTLE)))
     own, listed = planning(base(n=2, run=LITTLE), 2020)
     yield refused(13, "PL in the second year, a plan of the first", own, plan=plan((2019, LITTLE)))
-    yield accepted("PL in the second year, a plan of it alone", own, plan=listed, activity=21579)
+    yield accepted("PL in the second year, a plan of it alone", own, plan=listed, activity=27332)
 
 
 def planned_orders():
@@ -892,7 +923,7 @@ def planned_years():
     for number in (2019, 2020):
         mixed = base(n=2)
         k = index(mixed, "CD", number - 2019) + 1
-        mixed[k:k + 4] = [PLANNED]
+        mixed[k:k + len(RUN)] = [PLANNED]
         yield accepted(f"PL in {number}, much activity in the other year", mixed, plan=plan((number, LITTLE)))
         yield refused(13, f"PL in {number}, much activity in it", mixed, plan=plan((number, RUN)))
         yield accepted(f"PL in {number}, much planned for the other year", mixed, plan=plan(*sorted({2019: RUN, 2020: RUN, number: LITTLE}.items())))
@@ -903,7 +934,7 @@ def planned_years():
     yield accepted("each planned year by its own number", base(n=3, run=[PLANNED]), activity=1,
                    plan=plan((2018, RUN), (2019, LITTLE), (2020, []), (2021, [limestone(1)]), (2022, RUN)))
     yield accepted("own records, more of them in the plan", base(n=2, run=LITTLE), plan=plan((2019, RUN), (2020, different(60, RUN))),
-                   activity=21579)
+                   activity=27332)
     leap = planning(years_of(1, 2099, 3, PROJECT, BELT, (table(("E", "NF", sum(PROJECT))), stays(BELT)), run=LITTLE), 2099, 2101)
     yield accepted("PL in 2099 and 2101", leap[0], plan=leap[1])
 
@@ -914,13 +945,248 @@ def planned_amounts():
         records, listed = planning(base(option, 20, vehicles(120)))
         yield accepted(f"20 planned years of 60 records, Option {option}", records, plan=listed, activity=60 * 383)
     mixed, listed = planning(base(1, 20, LITTLE), *range(2020, 2039, 2))
-    yield accepted("20 years, every other one planned", mixed, plan=listed, activity=21579)
+    yield accepted("20 years, every other one planned", mixed, plan=listed, activity=27332)
     vast, gone, most = areas(SE=LIMIT), table(("SE", "NF", LIMIT)), vehicles(LIMIT)
     records, listed = planning(filing(areas(SE=MOST_STOCK), years_of(2, 2200, 20, vast, vast, (gone, gone), run=most)))
     yield accepted("20 planned years of the greatest amounts", records, plan=listed, project=1833333333333334, displaced=1833333333333334,
                    activity=191178000000000)
     records, listed = planning(filing(areas(SE=MOST_STOCK), years_of(2, 2200, 1, vast, areas(), (gone, table()), run=most)))
     yield refused(13, "a planned year of the greatest amounts without a belt", records, plan=listed)
+    for number, crops in ((0, (2, 2)), (13, (1, 2)), (13, (1, 1))):
+        both = [("CR", [crop, *factors, *MOST_RESIDUE[1][3:]]) for crop, factors in zip(crops, MOST_DRY)]
+        records, listed = planning(filing(areas(SE=MOST_STOCK), years_of(2, 2200, 1, vast, vast, (gone, gone), run=most[:58] + both)))
+        label = f"a planned year of 58 VE and CR of crops {crops[0]} and {crops[1]} of the greatest amounts"
+        yield refused(13, label, records, plan=listed) if number else accepted(label, records, plan=listed, activity=189722400000000)
+
+
+# Nitrogen of crop residue (#106)
+
+def residue(crop, *numbers):
+    return "CR", [crop, *numbers]
+
+
+def residues(count):
+    """CR that differ in their last field; the first is RUN's. The first two emit 4,739,497 g and 4,744,143 g."""
+    mark, given = RUN[4]
+    return [(mark, [*given[:-1], given[-1] + k]) for k in range(count)]
+
+
+UNIT = 1, 1, 1, 1, 0, 1, 0  # the least nitrogen that there can be but none, 10^-7 g
+UNLIKE = 123, 457, 7919, 83, 29, 61, 97  # 3,505,882,543,284 x 10^-7 g
+SPLIT = 100, 1000, 10000, 37, 13, 101, 77  # 2,143,730.05 g by the part above the ground, 574,223.65 g by the one below
+
+
+def residue_amounts():
+    """Nitrogen by each field, its emission by w of source 3, rounded up once."""
+    for area, dry_matter in MOST_DRY:
+        for crop, grams in ((1, 5736500000000), (2, 2458500000000)):
+            record = residue(crop, area, dry_matter, *MOST_RESIDUE[1][3:])
+            yield accepted(f"the greatest CR, crop {crop}, {area} x {dry_matter}", emitting(record), activity=grams)
+    yield accepted("the greatest CR of either crop", emitting(MOST_RESIDUE, residue(2, *MOST_RESIDUE[1][1:])), activity=8195000000000)
+    for crop, grams in ((1, 11473), (2, 4917)):
+        record = residue(crop, 2, 10000, 10000, 100, 0, 1, 0)
+        yield accepted(f"CR {crop}, 2, 10,000, 10,000, 100, 0, 1, 0", emitting(record), activity=grams)
+        yield accepted(f"the same nitrogen by CR and NI, crop {crop}", emitting(record, ("NI", [3, crop, 2000, 10000])), activity=2 * grams)
+    most = MOST_RESIDUE[1][3:]
+    for area, dry_matter in ((0, MOST_WIDE), (MOST_WIDE, 0), (0, 0), (0, 10**8 + 1), (10**8 + 1, 0)):
+        yield accepted(f"CR of {area} ha and {dry_matter} kg", emitting(residue(1, area, dry_matter, *most)), activity=0)
+    for crop, grams in ((1, 4739497), (2, 2031213)):
+        yield accepted(f"w of crop {crop}", emitting(residue(crop, *RUN[4][1][1:])), activity=grams)
+    for crop, grams, crossed in ((1, 2011150, 2507554), (2, 861922, 1074666)):
+        yield accepted(f"each ratio by its content, crop {crop}", emitting(residue(crop, *UNLIKE)), activity=grams)
+        yield accepted(f"the contents exchanged, crop {crop}", emitting(residue(crop, *UNLIKE[:-2], 97, 61)), activity=crossed)
+    for f, grams in ((1, 0), (2, 0), (3, 0), (4, 650520), (5, 4088978), (6, 650520), (7, 4088978)):
+        yield accepted(f"CR without its {FIELD_NAMES['CR'][f]}", emitting(*changed(RUN[4:], 0, {f: 0})), activity=grams)
+
+
+def residue_roundings():
+    """Where another rounding comes to another figure, and the unrounded emission in the unrounded total."""
+    yield accepted("nitrogen is not rounded", emitting(residue(1, *UNLIKE)), activity=2011150)  # in whole grams 2,011,149 or 2,011,154
+    yield accepted("10^-7 g of nitrogen", emitting(residue(1, *UNIT)), activity=1, reduction=-1, credited=-1, unrounded=Fraction(-11473, 2 * 10**10))
+    yield accepted("10^-7 g of nitrogen above and below the ground", emitting(residue(1, 1, 1, 1, 1, 1, 1, 1)), activity=1)
+    yield accepted("the parts above and below the ground are rounded together", emitting(residue(1, *SPLIT)), activity=2717954)  # not 2,717,955
+    yield accepted("each CR rounded by itself", emitting(residue(1, *UNIT), residue(2, *UNIT)), activity=2, unrounded=Fraction(-1639, 2 * 10**9))
+    for name, grams, record in (("just above a whole number", 2713298004368, residue(1, 267, 356681, 9973, 499, 1, 9980, 27)),
+                                ("just below a whole number", 2748551626948, residue(1, 401, 239713, 9973, 500, 1, 9995, 487)),
+                                ("just above a whole number, crop 2", 1148715793022, residue(2, 281, 334833, 9973, 499, 1, 9978, 435)),
+                                ("just below a whole number, crop 2", 1166920801481, residue(2, 109, 874027, 9973, 500, 1, 9991, 173))):
+        yield accepted(f"CR {name}, by 5 x 10^-11 g", emitting(record), activity=grams)
+    forest, lost = areas(E=100000000), table(("E", "E", 99000000), ("E", "NF", 1000000))
+    yield accepted("CR in the unrounded total", one_year(1, forest, areas(), stays(forest), table(), residue(1, *SPLIT)), reference=833569000,
+                   activity=2717954, total=664680836, unrounded=Fraction("664680837.04"))
+    records, listed = planning(one_year(1, forest, areas(), lost, table(), residue(1, *SPLIT)))
+    yield accepted("a planned CR in the unrounded total", records, plan=listed, project=334766667, activity=2717954, total=396867503,
+                   unrounded=Fraction(29765062778, 75))
+
+
+def residue_limits():
+    """Each limit and its neighbours, with the other fields as in RUN: area x yield is limited, neither of them by itself."""
+    for f, most, grams in ((0, 2, 2031213), (1, 55555, 10532108678), (2, 4000000, 10532214000), (3, 10000, 5266107), (4, 500, 19236780),
+                           (5, 500, 20351955), (6, 10000, 256211595), (7, 10000, 50554628)):
+        name, wide = FIELD_NAMES["CR"][f], 2**8 if f == 0 else 2**32 if f < 3 else 2**16
+        yield accepted(f"CR with {name} {most} beside others", emitting(*changed(RUN[4:], 0, {f: most})), activity=grams)
+        for value in (most + 1, wide - 1, wide // 2):
+            yield refused(8, f"CR with {name} {value} beside others", emitting(*changed(RUN[4:], 0, {f: value})))
+    yield refused(8, "CR with crop 0 beside others", emitting(*changed(RUN[4:], 0, {0: 0})))
+    most = MOST_RESIDUE[1][3:]
+    for area, dry_matter in ((9, 11111111), (1, 99999999), (99999999, 1)):
+        yield accepted(f"CR of {area} ha and {dry_matter} kg, 99,999,999", emitting(residue(1, area, dry_matter, *most)), activity=5736499942635)
+    for area, dry_matter in (*MUCH_DRY, *WRAPPED_DRY):
+        yield refused(8, f"CR of {area} ha and {dry_matter} kg, the rest greatest", emitting(residue(1, area, dry_matter, *most)))
+    two = base(n=2)
+    yield fault(8, "a wrong CR in the second year", two, "CR", {4: 501}, 1)
+    yield refused(8, "a wrong CR in the second year, whole dossier", put(two, "CR", {2: 4000001}, 1))
+    yield refused(8, "a sound CR, then a wrong one", emitting(RUN[4], *changed(RUN[4:], 0, {5: 501})))
+    yield refused(8, "a wrong CR, then two sound ones", emitting(*changed(RUN[4:], 0, {5: 501}), *residues(2)))
+
+
+def residue_cuts():
+    """A CR cut after each of its bytes: the first, the second and the third of its year, sound or wrong. Of a third the mark decides."""
+    for name, last, number in (("sound", residues(3)[2], 1), ("wrong", residue(255, *[65535] * 7), 8)):
+        for nth, place in enumerate(("first", "second", "third")):
+            data, at = encode(emitting(*residues(nth), last)[:-1]), places(emitting(*residues(nth), last))[-3]
+            for length in range(1, 22):
+                due = 9 if nth == 2 and length > 1 else number if length == 21 else 1
+                yield refused(due, f"a {name} CR as the {place}, {length} of its 21 bytes", data[:at + length])
+
+
+def residue_thirds():
+    """A third CR of a year is 9 by its mark, whatever it holds and whatever follows; what stands before it comes first."""
+    one, two, three = residues(3)
+    wrong, fuel, faulty = residue(3, *[0] * 7), RUN[0], ("FU", [0, 0])
+    others = different(57, RUN[:4])
+    for name, record in (("third CR", three), ("third CR equal to the first", one), ("third CR equal to the second", two),
+                         ("third CR out of range", wrong), ("third CR of zero quantities", residue(1, *[0] * 7))):
+        yield refused(9, name, emitting(one, two, record))
+        yield refused(9, f"{name}, others between", emitting(fuel, one, *RUN[1:3], two, RUN[3], record))
+        yield refused(9, f"{name}, then another mark", encode(emitting(one, two, record)[:-1]) + b"??")
+        yield refused(12, f"{name} in a plan", base(run=[PLANNED]), plan=plan((2019, [one, two, record])))
+    for name, record in out_of_range():
+        if record[0] == "CR":
+            yield refused(9, f"{name} as the third", emitting(one, two, record))
+    for spots in ((0, 1, 2), (0, 30, 59), (57, 58, 59), (0, 1, 59), (28, 29, 30)):
+        run = list(others)
+        for at, record in zip(spots, residues(3)):
+            run.insert(at, record)
+        yield refused(9, f"CR as records {', '.join(str(at + 1) for at in spots)} of sixty", emitting(*run))
+    yield refused(9, "sixty CR", emitting(*residues(60)))
+    yield refused(9, "a third CR, then a wrong field", emitting(one, two, three, faulty))
+    yield refused(9, "a third CR, then a pair", emitting(one, two, three, fuel, fuel))
+    yield refused(9, "a third CR, then PL", emitting(one, two, three, PLANNED), plan=plan((2019, LITTLE)))
+    yield refused(9, "a third CR, then a 61st record", emitting(one, two, three, *different(58, RUN[:4])))
+    yield refused(14, "a second CR equal to the first", emitting(one, one))
+    yield refused(14, "a pair of CR, then a third", emitting(one, one, two))
+    yield refused(14, "a pair of CR, then a third equal to them", emitting(one, one, one))
+    yield refused(14, "two CR, a pair, then a third CR", emitting(one, fuel, two, fuel, three))
+    yield refused(8, "two CR, a wrong field, then a third CR", emitting(one, two, faulty, three))
+    yield refused(8, "a wrong second CR, then a third", emitting(one, wrong, three))
+    yield refused(2, "two CR, another mark, then a third CR", encode(emitting(one, two)[:-1]) + b"CD" + encode([three]))
+    yield refused(2, "two CR, PL, then a third CR", emitting(one, two, PLANNED, three), plan=plan((2019, LITTLE)))
+    yield refused(1, "C alone after two CR", encode(emitting(one, two)[:-1]) + b"C")
+    yield refused(2, "cr after two CR", encode(emitting(one, two)[:-1]) + b"cr")
+    both = base(n=2, run=residues(3))
+    yield refused(9, "a third CR in the first of two years", both)
+    yield refused(9, "a third CR in the second of two years", base(n=2, run=residues(2))[:-1] + [three, END])
+    yield refused(9, "a third CR, then a wrong second year", put(both, "YR", {1: 0}, 1))
+    for number, mark, cells in ((3, "HD", {0: 3}), (4, "PA", {0: LIMIT}), (6, "YR", {1: 0}), (7, "CP", {0: 0}), (7, "CD", {0: 0})):
+        yield refused(number, f"a wrong {mark}, then a third CR", put(both, mark, cells))
+    yield refused(6, "a third CR in a year more than n", put(base(n=2, run=residues(2))[:-1] + [three, END], "HD", {2: 1}))
+    for room in (0, 95):
+        yield refused(9, f"a third CR, and a buffer of {room}", emitting(one, two, three), room)
+    for number, name, lent_plan in ((12, "a plan cut", b"E"), (9, "a sound plan", b"EN"), (9, "a plan of its year", plan((2019, LITTLE))),
+                                    (14, "a plan with a pair", plan((2019, LITTLE[:1] * 2))), (12, "a plan with one too", plan((2019, residues(3))))):
+        yield refused(number, f"a third CR in the dossier, and {name}", emitting(one, two, three), plan=lent_plan)
+
+
+def residue_places():
+    """Two CR a year at any places, counted among the sixty, in every year anew."""
+    (first, second), many = residues(2), vehicles(120)
+    both = 4739497 + 4744143
+    for spots in ((0, 1), (58, 59), (0, 59), (29, 30), (0, 30), (29, 59)):
+        run = many[:58]
+        for at, record in zip(spots, residues(2)):
+            run.insert(at, record)
+        yield accepted(f"CR as records {spots[0] + 1} and {spots[1] + 1} of sixty", emitting(*run), activity=58 * 383 + both)
+    yield accepted("one CR among sixty records", emitting(*many[:59], first), activity=59 * 383 + 4739497)
+    yield accepted("two CR alone", emitting(first, second), activity=both)
+    for name, run in (("60 records without CR", many), ("59 records and a CR", [*many[:59], first]),
+                      ("58 records and two CR", [*many[:58], first, second]), ("two CR and 58 records", [first, second, *many[:58]])):
+        yield refused(9, f"{name}, then a CR", emitting(*run, residues(3)[2]))
+        yield refused(9, f"{name}, then the mark CR", encode(emitting(*run)[:-1]) + b"CR")
+        yield refused(9, f"{name}, then a VE", emitting(*run, ("VE", [3, 1, 1, 1])))
+        yield refused(1, f"{name}, then C alone", encode(emitting(*run)[:-1]) + b"C")
+    yield accepted("two CR in each of two years", base(n=2, run=residues(2)), activity=both)
+    yield accepted("two CR in each of twenty years", base(2, 20, residues(2)), activity=both)
+    apart = base(n=3, run=[])
+    for at, more in ((2, [first]), (1, [first, second]), (0, [second])):
+        k = index(apart, "CD", at) + 1
+        apart[k:k] = more
+    yield accepted("one CR, two, and one in three years", apart, activity=4739497)
+    for run in ((first, *RUN[:4], second), (*RUN[:2], first, *RUN[2:4], second), (second, first, *RUN[:4])):
+        yield accepted(f"{' '.join(mark for mark, _ in run)}", emitting(*run), activity=both + 3790109 + 10323612 + 67317 + 7334)
+
+
+def residue_planned():
+    """CR in a planned year, as in a year of its own: their emissions are held to be small, and at most two are in each PY."""
+    one, own, (first, second, third) = base(run=[PLANNED]), base(run=LITTLE), residues(3)
+    small, other = LITTLE[4], residue(1, *LITTLE[4][1][1:])
+    yield accepted("a plan of two CR", one, plan=plan((2019, [small, other])), activity=5753 + 13424)
+    lost = one_year(1, areas(E=5700), areas(), table(("E", "NF", 5700)), table(), PLANNED)
+    for crop, most in ((1, 17507016), (2, 40849705)):
+        run = [residue(crop, 1, most, 100, 100, 0, 1, 0)]
+        yield accepted(f"project 1,908,170, CR of crop {crop} and {most} kg", lost, plan=plan((2019, run)), project=1908170, activity=100429)
+        yield refused(13, f"project 1,908,170, CR of crop {crop} and {most + 1} kg", lost, plan=plan((2019, put(run, "CR", {2: most + 1}))))
+    thrice = plan((2019, [limestone(1), residue(1, *UNIT), residue(2, *UNIT)]))
+    yield accepted("project 58, a gram of lime and two CR of a gram each", emitted(1581), plan=thrice, project=58, activity=3)
+    yield refused(13, "project 57, a gram of lime and two CR of a gram each", emitted(1554), plan=thrice)
+    yield refused(13, "a planned CR of the greatest amount", one, plan=plan((2019, [MOST_RESIDUE])))
+    yield accepted("a planned CR of the greatest amount in another year", one, plan=plan((2018, [MOST_RESIDUE]), (2019, [small])), activity=5753)
+    two = base(n=2, run=[PLANNED])
+    yield accepted("two CR in each of two planned years", two, plan=plan((2019, [small, other]), (2020, [small, other])), activity=5753 + 13424)
+    yield accepted("two CR of its own, and two in a plan of its year", base(run=residues(2)), plan=plan((2019, [small, other])), activity=9483640)
+    yield accepted("two CR of its own, then two planned", planning(base(n=2, run=[small, other]), 2020)[0], plan=plan((2020, [small, other])),
+                   activity=5753 + 13424)
+    full = [(2019 + k, [small, other]) for k in range(MOST_PLANNED)]
+    yield accepted("two CR in each of twenty planned years", one, plan=plan(*full), activity=5753 + 13424)
+    due, three, pair, wrong = (2019, LITTLE), residues(3), [small, small], residue(1, 17, 5882353, 0, 0, 0, 0, 0)
+    for number, name, years in ((12, "a third CR in its year", [(2019, three)]), (12, "a third CR in the year before", [(2018, three), due]),
+                                (12, "a third CR in the year after", [due, (2020, three)]),
+                                (12, "a third CR in the 20th year", [*full[:-1], (2038, three)]),
+                                (12, "a third CR among sixty", [(2019, [first, *different(57, RUN[:4]), second, third])]),
+                                (12, "a CR after sixty", [(2019, [*different(60, RUN[:4]), first])]),
+                                (12, "a third CR, then a pair", [(2019, [*three, *LITTLE[:1] * 2])]),
+                                (12, "a third CR, then a pair in the next year", [(2019, three), (2020, pair)]),
+                                (12, "a wrong CR twice", [(2019, [wrong, wrong])]), (12, "a sound CR, then a wrong one", [(2019, [small, wrong])]),
+                                (14, "a second CR equal to the first", [(2019, pair)]), (14, "a pair of CR, then a third", [(2019, [*pair, other])]),
+                                (14, "a pair of CR, then a third in the next year", [(2019, pair), (2020, three)]),
+                                (14, "a pair of CR in the year after", [due, (2020, pair)])):
+        yield refused(number, f"a plan of {name}", one, plan=plan(*years))
+        yield refused(number, f"a plan of {name}, without PL", own, plan=plan(*years))
+    data = encode(plan((2019, three)))
+    for length in range(1, 22):
+        yield refused(12, f"a plan cut in its third CR, {length} of its 21 bytes", one, plan=data[:-23] + data[-23:][:length])
+    for name, dossier in (("no bytes", b""), ("n 0", put(own, "HD", {2: 0})), ("a wrong field", put(own, "FU", {0: 0})), ("a pair", emitting(*pair))):
+        yield refused(12, f"a plan with a third CR, and a dossier of {name}", dossier, plan=data)
+    for room in (0, 95):
+        yield refused(12, f"a plan with a third CR, and a buffer of {room}", own, room, plan=data)
+
+
+def residue_pairs():
+    """Pairs of CR that are not equal. Twenty of them stand in a plan, each in a year of its own: one number of a CR is a power of two or the
+    greatest, one of the other is one more than its least, and all else is at its least."""
+    low = least("CR")
+    ones = [("CR", [*low[:f], low[f] + 1, *low[f + 1:]]) for f in range(len(low))]
+    pairs = [[given, other] for given in powers("CR") for other in ones if given != other]
+    for k in range(0, len(pairs), MOST_PLANNED):
+        yield accepted(f"CR with a number apart, pairs {k + 1} to {min(k + MOST_PLANNED, len(pairs))}", base(run=LITTLE),
+                       plan=plan(*enumerate(pairs[k:k + MOST_PLANNED])), activity=27332)
+    given, exchanged = [12, 34, 5678, 90, 12, 345, 678], [12, 34, 5678, 12, 90, 678, 345]
+    for name, grams, f, g in (("area and yield", 52076, 0, 1), ("the ratios", 86594, 3, 4), ("the contents", 86594, 5, 6)):
+        other = list(given)
+        other[f], other[g] = given[g], given[f]
+        yield accepted(f"CR that have {name} exchanged", emitting(residue(1, *given), residue(1, *other)), activity=52076 + grams)
+    yield accepted("CR with the parts above and below exchanged", emitting(residue(1, *given), residue(1, *exchanged)), activity=2 * 52076)
+    yield accepted("CR with the same product by other factors", emitting(residue(1, *given), residue(1, 8, 51, *given[2:])), activity=2 * 52076)
 
 
 # Where the bytes end
@@ -961,7 +1227,7 @@ def last_marks():
     one, two, run = base(), base(n=2), [*GREATEST, "YR", "EN"]
     full = emitting(*different(60, RUN))
     spots = [("after HD, Option 2", before(base(2), "PA"), ["PA", "ST"]), ("after PA, Option 2", before(base(2), "DA"), ["DA"])]
-    spots += [(f"after {mark}", before(one, after), run) for mark, after in (("FU", "VE"), ("VE", "NI"), ("NI", "LI"), ("LI", "EN"))]
+    spots += [(f"after {mark}", before(one, after), run) for mark, after in FOLLOWING]
     spots += [("after 60 records", encode(full[:-1]), run), ("after the first of two years", before(two, "YR", 1), run[:-1]),
               ("after the second YR", before(two, "CP", 1), ["CP"]), ("after the second CP", before(two, "CD", 1), ["CD"]),
               ("after the second CD", before(two, "FU", 1), [*run, "PL"]), ("after EN", encode(one), [])]
@@ -999,7 +1265,7 @@ def equal_records():
     yield refused(14, "the 60th record of one slot equal to the first", emitting(*of_one_slot(59), *of_one_slot(1)))
     yield refused(14, "the 60th record of one slot equal to the 59th", emitting(*of_one_slot(59), *of_one_slot(59)[58:]))
     yield refused(14, "a pair in the second year", base(n=2)[:-1] + [RUN[3], END])
-    yield refused(14, "a pair in the first of two years", base(n=2, run=RUN + RUN[3:]))
+    yield refused(14, "a pair in the first of two years", base(n=2, run=RUN + RUN[3:4]))
     yield refused(14, "a pair under Option 2 by filed stocks", filing(NEWER, base(2, run=RUN + RUN[:1])))
 
 
@@ -1018,7 +1284,8 @@ def nearly_equal():
         for f, (name, top) in enumerate(zip(FIELD_NAMES[mark], GREATEST[mark])):
             other = [*given[:f], given[f] % top + 1, *given[f + 1:]]
             yield accepted(f"{mark} twice but for its {name}", emitting((mark, given), (mark, other)))
-        yield accepted(f"{mark} with a power of two in one field or another", emitting(*powers(mark)))
+        if mark != "CR":
+            yield accepted(f"{mark} with a power of two in one field or another", emitting(*powers(mark)))
     alike = [(mark, [1, amount]) for mark in ("FU", "LI") for amount in (0, 1, 2, 7, LIMIT)]
     yield accepted("FU and LI with the same fields", emitting(*alike), activity=4 + 7 + 23 + 3186300000000 + 1 + 1 + 4 + 440000000000)
     alike += [("VE", [1, count, 0, 0]) for count in (0, 1, 2, 7)] + [("NI", [1, crop, 0, 0]) for crop in (1, 2)]
@@ -1034,7 +1301,7 @@ def nearly_equal():
                                  ("a planned year and one that is not used", base(run=[PLANNED]), [(2019, LITTLE), (2020, LITTLE)]),
                                  ("the plan and the dossier's own year", base(run=LITTLE), [(2019, LITTLE)]),
                                  ("a planned year and the next one's own", planning(base(n=2, run=LITTLE), 2019)[0], [(2019, LITTLE)])):
-        yield accepted(f"the same records in {name}", records, plan=plan(*years), activity=21579)
+        yield accepted(f"the same records in {name}", records, plan=plan(*years), activity=27332)
     yield accepted("sixty records of one slot in a plan", base(run=LITTLE), plan=plan((2019, of_one_slot(60)), (2020, of_one_slot(60))))
 
 
@@ -1261,11 +1528,45 @@ def equal_pieces():
         yield from (gives(14, pair), closes(0, room), gives(14, encode(pair) + b"?"), gives(14, encode(pair) + b"EN"), gives(14, pair + [PLANNED]))
         yield from (gives(1, encode(pair)[:-1]), gives(8, due + [("FU", [0, 0])] * 2), gives(9, due[:3] + different(60, LITTLE) + due[3:4]))
         yield from (gives(7, put(pair, "CD", {0: 0})), gives(6, put(pair, "YR", {1: 0})), closes(0, room))
-        for wrong in (plan((2019 + y, LITTLE), (2030, LITTLE + LITTLE[3:])), plan((2019 + y, LITTLE + LITTLE[:1]))):
+        for wrong in (plan((2019 + y, LITTLE), (2030, LITTLE + LITTLE[3:4])), plan((2019 + y, LITTLE + LITTLE[:1]))):
             yield from (lends(wrong), gives(14, by_plan), gives(14, due), gives(14, pair), gives(14, b""), closes(0, room), closes(10, room - 1))
         yield from (lends(plan((2019 + y, LITTLE), (2030, LITTLE))), gives(14, pair), gives(0, mended), closes(0, room + 64), closes(10, room + 63))
     yield from (gives(6, dues[2] + dues[2][3:4]), lends(plan((0, LITTLE[:1] * 2))), gives(14, dues[2]), opens(0, head), gives(14, dues[0]))
     yield from (lends(b""), gives(0, dues[0]), closes(0, 96), opens(1, head[:2]), gives(6, dues[0] + dues[0][3:4]), closes(0, 32))
+
+
+# CR of a ledger's years (#106)
+
+def residue_pieces():
+    """A year piece with a third CR is refused 9 and leaves the ledger, a plan with one 12; two CR are taken in every year, its own or planned."""
+    head, dues = pieces(base(2, 3, LITTLE))
+    (first, second, third), wrong = residues(3), residue(1, 65536, 65536, 0, 0, 0, 0, 0)
+    small = [LITTLE[4], residue(1, *LITTLE[4][1][1:])]
+    yield from (opens(0, head), lends(b""))
+    for y, due in enumerate(dues):
+        tables, by_plan, number, room = due[:3], due[:3] + [PLANNED], 2019 + y, 64 * y + 32
+        data = encode(tables + [first, second, third])
+        for answer, piece in ((9, data), (9, data[:-19]), (9, data[:-1]), (9, data + b"?"), (9, data + b"EN"), (9, tables + [first, second, first]),
+                              (9, tables + [first, second, wrong]), (9, tables + [first, second, third, PLANNED]),
+                              (9, tables + different(60, RUN[:4]) + [first]), (1, data[:-20]), (1, data[:-22]), (1, encode(tables + [first]) + b"CR"),
+                              (14, tables + [first, first]), (14, tables + [first, first, second]), (8, tables + [wrong]),
+                              (8, tables + [first, wrong, third]), (8, tables + [first, second, ("FU", [0, 0]), third]),
+                              (7, put(tables, "CD", {0: 0}) + residues(3)), (6, put(tables, "YR", {1: 0}) + residues(3)),
+                              (2, encode(tables + [first, second]) + b"cr"), (2, tables + [first, PLANNED])):
+            yield from (gives(answer, piece), closes(0, room))
+        for listed in (plan((number, residues(3))), plan((number, small), (2030, residues(3))), plan((0, residues(3)), (number, small)),
+                       plan((number, small + small[:1])), encode(plan((number, residues(3))))[:-21]):
+            yield lends(listed)
+            for piece in (by_plan, due, data, tables + [first, first], b"", b"C"):
+                yield from (gives(12, piece), closes(0, room))
+        yield from (lends(plan((number, small[:1] * 2))), gives(14, by_plan), closes(0, room))
+        yield from (lends(plan((number, [MOST_RESIDUE]))), gives(13, by_plan), closes(0, room), lends(plan((number, small))))
+        yield from (gives(9, data), closes(0, room), closes(10, room - 1), gives(2, by_plan + small[:1]), closes(0, room))
+        taken = (tables + [first, *RUN[:4], second], by_plan, tables + vehicles(120)[:58] + [first, second])[y]
+        yield from (gives(0, taken), closes(0, room + 64), closes(10, room + 63), gives(6, taken))
+    yield from (gives(6, dues[2][:3] + residues(3)), lends(plan((0, residues(3)))), gives(12, dues[2]), opens(0, head), gives(12, dues[0]))
+    yield from (lends(b""), gives(0, dues[0][:3] + small), closes(0, 96), gives(9, dues[1][:3] + residues(3)), closes(0, 96))
+    yield from (gives(0, dues[1][:3] + small), closes(0, 160), opens(1, head[:2]), gives(6, dues[0][:3] + residues(3)), closes(0, 32))
 
 
 # The calls that every vector's dossier makes
@@ -1370,10 +1671,11 @@ def second_years():
 VECTORS = (examples, edges, cuts, marks, heads, totals, rows, years, conversions, table_entries, activities, kinds, sixty, endings, orders, buffers,
            slips, roundings, bad_years, every_class, projections, stock_limits, stock_cuts, stock_places, stock_lists, stock_orders,
            stock_amounts, plan_forms, plan_faults, plan_records, plan_cuts, plan_marks, plan_first, planned_places, planned_ends,
-           planned_lacking, planned_orders, planned_shares, planned_grams, planned_years, planned_amounts, record_ends, calendar, last_marks,
+           planned_lacking, planned_orders, planned_shares, planned_grams, planned_years, planned_amounts, residue_amounts, residue_roundings,
+           residue_limits, residue_cuts, residue_thirds, residue_places, residue_planned, residue_pairs, record_ends, calendar, last_marks,
            full_buffers, equal_records, nearly_equal, equal_orders, equal_planned)
 CALLS = (empty_ledger, refused_openings, case_a_ledger, three_years, opened_again, filed_ledgers, bad_plans, planned_pieces, changing_plans,
-         equal_pieces, every_dossier, second_years)
+         equal_pieces, residue_pieces, every_dossier, second_years)
 
 
 def require(holds, what):

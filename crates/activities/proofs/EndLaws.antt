@@ -9,7 +9,7 @@ use lib.ListN.{length, take, drop}
 use Rattle.activity.specs.declared.Activity.{Activity}
 use Rattle.activity.specs.Activity.{ActivitiesInRange}
 use Rattle.activity.proofs.ActivityLaws.{emissions-le}
-use Rattle.pairs.specs.Pairs.{someEqual}
+use Rattle.pairs.specs.Pairs.{keys, someEqual}
 use Rattle.dossier.specs.Reader.{refused, accepted, give}
 use Rattle.dossier.specs.Judging.{activities}
 use Rattle.dossier.proofs.ReaderLaws.{bind-no, bind-yes}
@@ -34,8 +34,8 @@ module _ (s : List ℕ) (records : List Activity) where
   stopped-inside (RunAnswer.Read grams next) h p n = (h .1, rw (h .0) (omega (arith, emissions-le records p)))
   stopped-inside (RunAnswer.Refused n) h p k = tt
 
-module _ {s keys : List ℕ} {r : Records} (h : RecordsSaid s keys r) where
-  module _ (b : Bool) (e : b ≡ someEqual (take (r .count) keys)) where
+module _ {s low high : List ℕ} {r : Records} (h : RecordsSaid s low high r) where
+  module _ (b : Bool) (e : b ≡ someEqual (take (r .count) (keys low high))) where
     pub two-equal : b ≡ true → refused 14 ≡ summedActivities s
     two-equal t = refused-as s 14 (rw (← e, t) at (h .judged))
 

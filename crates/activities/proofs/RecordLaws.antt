@@ -1,20 +1,23 @@
 -- Each step of a record's reader at a place, from what the code read and tested there. `search judging` goes through a reader, one law a step.
 -- Assumes nothing.
 use Prim.Native.Nat.{ℕ, _+_, _-_, _≤_, _<_}
-use mathlib.Core.Path.{_≡_, _∙_, sym}
+use mathlib.Core.Path.{_≡_, refl, _∙_, sym}
 use mathlib.Core.Bool.{Bool, true, false, cond}
-use mathlib.Core.List.{List}
+use mathlib.Core.List.{List, [], _∷_}
 use native.Mathlib.Nat.{add-zero, add-assoc}
+use native.Mathlib.Omega.{arith}
 use borrow.Author.Tests.{lt-ltb, le-ltb, eq-eqb, ne-eqb}
 use lib.ListN.{length, drop, length-drop}
 use Rattle.activity.specs.declared.Activity.{Activity}
 use Rattle.activity.specs.declared.Activity.the-variants.{Fuel, Lime}
+use Rattle.activity.specs.Activity.{Range}
 use Rattle.wire.specs.Bytes.{fieldAt, total}
 use Rattle.dossier.specs.Layouts.{fuel, lime}
 use Rattle.dossier.specs.Reader.{Judged, refused, accepted, Reader, _>>=_, _>>_, give, present, field, outside, within}
 use Rattle.dossier.specs.JudgingRecords.{inRange, fieldsOf}
-use Rattle.dossier.proofs.ReaderLaws.{not-outside}
+use Rattle.dossier.proofs.ReaderLaws.{inside, not-outside}
 use Rattle.cursor.proofs.AtLaws.{field-is, within-is, give-is}
+use Rattle.activities.specs.Answers.{anyOutside}
 
 -- bytes are missing
 pub missing : {A : Type 0} (n : ℕ) (q : Reader A) (s : List ℕ) (at : ℕ) → length s - at < n → refused 1 ≡ (present n >> q) (drop at s)
@@ -50,6 +53,44 @@ given a u = sym (give-is a u)
 -- what a passed test says of its field
 pub at-most : (x high : ℕ) (b : Bool) → b ≡ outside 0 x high → b ≡ false → x ≤ high
 at-most x high b h f = not-outside 0 x high (sym h ∙ f) .most
+
+-- ---- a test of all the ranges at once
+-- one number's test: out, inside, or as wide as its field
+pub out-yes : (low x high : ℕ) (q b : Bool) → b ≡ outside low x high → b ≡ true → true ≡ cond (outside low x high) true q
+out-yes low x high q b h t = rw (← h, t)
+
+module _ {r : Bool} where
+  pub out-no : (low x high : ℕ) (q b : Bool) → b ≡ outside low x high → b ≡ false → r ≡ q → r ≡ cond (outside low x high) true q
+  out-no low x high q b h f e = rw (← h, f) e
+
+  pub out-never : (x high : ℕ) (q : Bool) → x ≤ high → r ≡ q → r ≡ cond (outside 0 x high) true q
+  out-never x high q h e = rw (inside 0 x high (record { least = omega arith; most = h })) e
+
+  pub out-last : (b : Bool) → r ≡ b → r ≡ cond b true false
+  out-last true e = e
+  out-last false e = e
+
+pub ruleset ranging = (out-yes, out-no, out-never, out-last)
+
+-- the record whose ranges were tested so
+in-range-is : (rs : List Range) (a : Activity) (u : List ℕ) → inRange rs a u ≡ cond (anyOutside rs) (refused 8) (accepted a u)
+unfolding inRange
+in-range-is [] a u = give-is a u
+in-range-is (r ∷ rest) a u =
+    within-is 8 (r .low) (r .number) (r .high) (inRange rest a) u ∙ go (outside (r .low) (r .number) (r .high)) (in-range-is rest a u)
+  where
+    go : (b : Bool) → inRange rest a u ≡ cond (anyOutside rest) (refused 8) (accepted a u)
+        → cond b (refused 8) (inRange rest a u) ≡ cond (cond b true (anyOutside rest)) (refused 8) (accepted a u)
+    go true e = refl
+    go false e = e
+
+pub ranges-out : (rs : List Range) (a : Activity) (u : List ℕ) (b : Bool) → b ≡ anyOutside rs → b ≡ true → refused 8 ≡ inRange rs a u
+ranges-out rs a u b h t = sym (in-range-is rs a u ∙ rw (← h, t))
+
+pub ranges-in : (rs : List Range) (a : Activity) (u : List ℕ) (b : Bool) → b ≡ anyOutside rs → b ≡ false → accepted a u ≡ inRange rs a u
+ranges-in rs a u b h f = sym (in-range-is rs a u ∙ rw (← h, f))
+
+pub ruleset whole = (missing, present-then, field-first, field-then, ranges-out, ranges-in)
 
 -- ---- FU and LI: the same fields and ranges, made into one or the other
 abbrev amountOf : Bool → ℕ → ℕ → Activity

@@ -2,24 +2,29 @@
 -- Serves contracts of inner functions and proofs; nothing here has to be believed. Assumes nothing.
 use Prim.Native.Nat.{ℕ, _≤_}
 use mathlib.Core.Path.{_≡_}
-use mathlib.Core.Bool.{true, false, cond}
-use mathlib.Core.List.{List, [], map}
+use mathlib.Core.Bool.{Bool, true, false, cond}
+use mathlib.Core.List.{List, [], _∷_, map}
 use lib.IntN.{pos}
 use lib.Signed.{mag}
 use lib.ListN.{length, take, drop}
 use Rattle.classes.specs.declared.Grams.{Grams}
 use Rattle.classes.specs.Ranges.{greatestActivity}
 use Rattle.activity.specs.declared.Activity.{Activity}
-use Rattle.activity.specs.Activity.{ActivitiesInRange, activityEmissions}
+use Rattle.activity.specs.Activity.{Range, ActivitiesInRange, activityEmissions}
 use Rattle.activity.specs.Key.{key}
-use Rattle.pairs.specs.Pairs.{someEqual}
+use Rattle.pairs.specs.Pairs.{keys, someEqual}
 use Rattle.dossier.specs.Causes.{markNotDue, recordRepeated}
-use Rattle.dossier.specs.Reader.{Judged, refused, accepted, Reader, _>>=_, give}
+use Rattle.dossier.specs.Reader.{Judged, refused, accepted, Reader, _>>=_, give, outside}
 use Rattle.dossier.specs.JudgingRecords.{activityMark}
 use Rattle.dossier.specs.Judging.{activities}
 use Rattle.activities.specs.declared.ActivityAnswer.{ActivityAnswer}
 use Rattle.activities.specs.declared.Records.{Records}
 use Rattle.activities.specs.declared.RunAnswer.{RunAnswer}
+
+-- ---- whether a number is out of its range
+abbrev pub anyOutside : List Range → Bool
+anyOutside [] = false
+anyOutside (r ∷ rest) = cond (outside (r .low) (r .number) (r .high)) true (anyOutside rest)
 
 -- ---- one activity record
 abbrev pub activitySays : List ℕ → ActivityAnswer → Judged Activity
@@ -39,13 +44,13 @@ MarkedBy m s (ActivityAnswer.Refused n) = activityMark m ≡ true
 MarkedBy m s ActivityAnswer.Over = activityMark m ≡ false
 
 -- ---- a year's records, with their keys
--- the first keys are those of these records, count of them
-pub record Keyed (records : List Activity) (keys : List ℕ) (count : ℕ) : Type 0 where
-  pub room : length keys ≡ 60
+-- the first words are those of the keys of these records, count of them
+pub record Keyed (records : List Activity) (low high : List ℕ) (count : ℕ) : Type 0 where
+  pub room : (length low ≡ 60) × (length high ≡ 60)
   pub few : count ≤ 60
   pub counted : length records ≡ count
   pub inRange : ActivitiesInRange records
-  pub told : take count keys ≡ map key records
+  pub told : take count (keys low high) ≡ map key records
 
 -- what stopped the reading of these records
 abbrev pub stoppedBy : (s : List ℕ) → List Activity → RunAnswer → Judged (List Activity)
@@ -58,11 +63,11 @@ Summed s records (RunAnswer.Read grams next) = (grams .0 ≡ pos (activityEmissi
 Summed s records (RunAnswer.Refused n) = Unit {0}
 
 -- a year's records are judged 14 where two keys are equal, otherwise as what stopped the reading says
-pub record RecordsSaid (s keys : List ℕ) (r : Records) : Type 0 where
+pub record RecordsSaid (s low high : List ℕ) (r : Records) : Type 0 where
   pub records : List Activity
-  pub keyed : Keyed records keys (r .count)
+  pub keyed : Keyed records low high (r .count)
   pub summed : Summed s records (r .answer)
-  pub judged : activities [] s ≡ cond (someEqual (take (r .count) keys)) (refused recordRepeated) (stoppedBy s records (r .answer))
+  pub judged : activities [] s ≡ cond (someEqual (take (r .count) (keys low high))) (refused recordRepeated) (stoppedBy s records (r .answer))
 
 -- ---- the sum of their emissions
 unfoldable pub summedActivities : Reader Grams

@@ -4,10 +4,27 @@ ghost use mathlib.Core.Path.{_≡_};
 ghost use Prim.Native.Nat.{_*_, _≤_};
 ghost use lib.IntN.{pos};
 ghost use Rattle.arithmetic.specs.Rounding.{ceilDiv};
-ghost use Rattle.activity.specs.Activity.{Within, fuelFactor, n2oShare, limeFactor, ActivityInRange, activityGrams};
-ghost use Rattle.activity.specs.Key.{key as keyOf};
+ghost use Rattle.activity.specs.declared.Activity.the-variants.{Residue};
+ghost use Rattle.activity.specs.Activity.{Within, fuelFactor, n2oShare, limeFactor, residueNitrogen, ActivityInRange, activityGrams};
+ghost use Rattle.activity.specs.Key.{twoWords, key as keyOf};
 
-// An activity record: FU, VE, NI or LI, by its fields.
+// Residues above or below the ground: their ratio to the yield, in hundredths, and their nitrogen content, in ten-thousandths.
+pub struct Part {
+    pub ratio: u64,
+    pub content: u64,
+}
+
+// A nitrogen-fixing crop, by the fields of CR: the area in ha, the yield (harvest) in kg of dry matter per ha, the renewed share in ten-thousandths.
+pub struct FixingCrop {
+    pub crop: u64,
+    pub area: u64,
+    pub harvest: u64,
+    pub renewed: u64,
+    pub above: Part,
+    pub below: Part,
+}
+
+// An activity record: FU, VE, NI, LI or CR, by its fields.
 pub enum Activity {
     Fuel {
         kind: u64,
@@ -29,6 +46,13 @@ pub enum Activity {
         material: u64,
         grams: u64,
     },
+    Residue(FixingCrop),
+}
+
+// A record in range as two numbers, which tell the record.
+pub struct Words {
+    pub low: u64,
+    pub high: u64,
 }
 
 // Grams of CO2 from 100,000 grams of a fuel (document 001, J(5)).
@@ -112,6 +136,28 @@ fn lime_emissions(material: u64, grams: u64) -> Grams
     by_factor(grams, lime_factor(material), 300)
 }
 
+// The nitrogen of CR, in 10^-7 grams. It passes 63 bits and fits 64.
+fn residue_nitrogen(r: FixingCrop) -> u64
+    requires { ⌜ ActivityInRange (Residue r) ⌝ }
+    ensures { λ n. ⌜ (n ≡ residueNitrogen r) × (n ≤ 10000000000000000000) ⌝ }
+{
+    r.area
+        * r.harvest
+        * r.renewed
+        * (r.above.ratio * r.above.content + r.below.ratio * r.below.content)
+}
+
+// CR: nitrogen of source 3. Its share is a multiple of 7, and so is the divisor 7 × 10^12; without that factor the remainder's product fits.
+fn residue_emissions(r: FixingCrop) -> Grams
+    requires { ⌜ ActivityInRange (Residue r) ⌝ }
+    ensures { λ g. ⌜ g .0 ≡ pos (ceilDiv (residueNitrogen r * n2oShare 3 (r .crop) * 3278) 7000000000000) ⌝ }
+{
+    let weight = n2o_share(3, r.crop) / 7 * 3278;
+    let nitrogen = residue_nitrogen(r);
+    let rest = arithmetic::divided_up(nitrogen % 1000000000000 * weight, 1000000000000);
+    Grams::of(nitrogen / 1000000000000 * weight + rest)
+}
+
 // A record's grams of CO2, rounded up by itself.
 pub fn emissions(activity: Activity) -> Grams
     requires { ⌜ ActivityInRange activity ⌝ }
@@ -132,28 +178,56 @@ pub fn emissions(activity: Activity) -> Grams
             content,
         } => nitrogen_emissions(source, crop, grams, content),
         Activity::Lime { material, grams } => lime_emissions(material, grams),
+        Activity::Residue(r) => residue_emissions(r),
     }
 }
 
-// A record in range as one number, which tells the record: its fields, and which of the four it is.
-pub fn key(activity: Activity) -> u64
+// Two numbers, the low one first.
+fn two_words(low: u64, high: u64) -> Words
+    ensures { λ r. ⌜ r ≡ twoWords low high ⌝ }
+{
+    Words { low, high }
+}
+
+// CR as two numbers: area and yield alone are the high one.
+fn residue_key(r: FixingCrop) -> Words
+    requires { ⌜ ActivityInRange (Residue r) ⌝ }
+    ensures { λ k. ⌜ k ≡ keyOf (Residue r) ⌝ }
+{
+    let contents = r.above.content * 10001 + r.below.content;
+    let fields = ((contents * 10001 + r.renewed) * 501 + r.above.ratio) * 501 + r.below.ratio;
+    two_words(
+        (fields * 4 + r.crop) * 8 + 4,
+        r.area * 4294967296 + r.harvest,
+    )
+}
+
+// A record in range as two numbers, which tell the record: its fields, and which of the five it is.
+pub fn key(activity: Activity) -> Words
     requires { ⌜ ActivityInRange activity ⌝ }
     ensures { λ r. ⌜ r ≡ keyOf activity ⌝ }
 {
     match activity {
-        Activity::Fuel { kind, grams } => (grams * 4 + kind) * 4,
+        Activity::Fuel { kind, grams } => two_words((grams * 4 + kind) * 8, 0),
         Activity::Vehicles {
             kind,
             count,
             average,
             rate,
-        } => (((rate * 1048576 + average) * 1024 + count) * 4 + kind) * 4 + 1,
+        } => two_words(
+            (((rate * 1048576 + average) * 1024 + count) * 4 + kind) * 8 + 1,
+            0,
+        ),
         Activity::Nitrogen {
             source,
             crop,
             grams,
             content,
-        } => (((grams * 16384 + content) * 4 + crop) * 4 + source) * 4 + 2,
-        Activity::Lime { material, grams } => (grams * 4 + material) * 4 + 3,
+        } => two_words(
+            (((grams * 16384 + content) * 4 + crop) * 4 + source) * 8 + 2,
+            0,
+        ),
+        Activity::Lime { material, grams } => two_words((grams * 4 + material) * 8 + 3, 0),
+        Activity::Residue(r) => residue_key(r),
     }
 }

@@ -2,7 +2,17 @@
 -- Assumes nothing.
 use mathlib.Core.Path.{_≡_}
 use Prim.Native.Nat.{ℕ, _+_, _-_, _*_, _/_, _%_, _≤_, _<_}
-use native.Mathlib.Nat.{div-add-mod', add-mul-div-right, div-mul-le-self, lt-div-mul-add, lt-of-mul-lt-mul-right}
+use native.Mathlib.Nat.{
+  div-add-mod',
+  add-mul-div-right,
+  div-mul-le-self,
+  lt-div-mul-add,
+  lt-of-mul-lt-mul-right,
+  le-antisymm,
+  le-of-mul-le-mul-left,
+  mul-le-mul-left,
+  mul-pos,
+}
 use native.Mathlib.Omega.{arith}
 use Rattle.arithmetic.specs.Rounding.{ceilDiv}
 
@@ -31,3 +41,12 @@ split-down c n m h =
 pub split-up : (c n m : ℕ) → 0 < m → c / m * n + ceilDiv (c % m * n) m ≡ ceilDiv (c * n) m
 unfolding ceilDiv
 split-up c n m h = rw (split-parts c n m (m - 1), add-mul-div-right (c % m * n + (m - 1)) (c / m * n) h) (omega arith)
+
+-- a factor of both
+pub cancel-up : (k a d : ℕ) → 0 < k → 0 < d → ceilDiv (k * a) (k * d) ≡ ceilDiv a d
+cancel-up k a d h l =
+    let whole = ceilDiv-is (k * a) (k * d) (mul-pos h l) in
+    let part = ceilDiv-is a d l in
+    le-antisymm
+    (ceilDiv-le (k * a) (k * d) (ceilDiv a d) (mul-pos h l) (omega (arith, mul-le-mul-left k (part .0))))
+    (ceilDiv-le a d (ceilDiv (k * a) (k * d)) l (le-of-mul-le-mul-left {k = k} (omega (arith, whole .0)) h))

@@ -12,7 +12,7 @@ greatestCarbon = 50_000_000_000_000_000
 abbrev pub greatestEmissions : ℕ
 greatestEmissions = 1_833_333_333_333_334
 
--- grams of one activity record. (Those of FU, VE, NI and LI are below 4 × 10^12.)
+-- grams of one activity record. (Those of FU, VE, NI and LI are below 4 × 10^12, those of CR below 6 × 10^12.)
 abbrev pub greatestRecord : ℕ
 greatestRecord = 3_230_000_000_000_000
 

@@ -7,18 +7,18 @@ use mathlib.Core.Option.{Option}
 use mathlib.Core.List.{List, [], _∷_}
 use lib.Dec.{ltb, eqb}
 use lib.ListN.{length, take, drop}
+use Rattle.activity.specs.declared.Activity.{Activity}
 use Rattle.wire.specs.Bytes.{number}
-use Rattle.dossier.specs.Causes.{bytesMissing, markNotDue, activityOutOfRange, openingCauses, yearCauses, _∈_}
+use Rattle.dossier.specs.Causes.{bytesMissing, markNotDue, activityOutOfRange, tooManyActivities, openingCauses, yearCauses, _∈_}
 use Rattle.dossier.specs.Marks.{EN}
 use Rattle.dossier.specs.Plan.{Plan}
 use Rattle.dossier.specs.Records.{Due}
 use Rattle.dossier.specs.Reader.{Judged, refused, accepted, Reader, after, _>>=_, _>>_, give, refuse, mark, stands, upon, present, begin, field, fields, nothing, endOfPiece}
-use Rattle.dossier.specs.JudgingRecords.{activity}
-use Rattle.dossier.specs.Judging.{dossier, openingPiece, yearPiece}
+use Rattle.dossier.specs.Judging.{another, dossier, openingPiece, yearPiece}
 use Rattle.dossier.specs.JudgingPlan.{planEnd}
 use Rattle.dossier.proofs.ReaderLaws.{never}
 use Rattle.dossier.proofs.CauseLaws.{listed, dossierCauses, opening-part, year-part}
-use Rattle.dossier.proofs.Walk.{Closed, openings, an-activity as one-activity, a-year, some-years}
+use Rattle.dossier.proofs.Walk.{Closed, openings, one-activity, a-year, some-years}
 
 -- what a reader refuses, it refuses for one of these causes
 abbrev pub Numbered : List ℕ → {A : Type 0} → Reader A → Type 0
@@ -36,6 +36,16 @@ module _ (allowed : List ℕ) (missing : bytesMissing ∈ allowed) (due : markNo
       go : (j : Judged A) → r s ≡ j → after j k ≡ refused n → n ∈ allowed
       go (refused m) h e = said m n e (x s m h)
       go (accepted a t) h e = y a t n e
+
+  -- with what is told of each value that r accepts
+  told : {A B : Type 0} {r : Reader A} {k : A → Reader B} → Numbered allowed r → ((a : A) (s t : List ℕ) → r s ≡ accepted a t → Numbered allowed (k a))
+      → Numbered allowed (r >>= k)
+  unfolding _>>=_
+  told {A} {B} {r} {k} x f s n e = go (r s) refl e
+    where
+      go : (j : Judged A) → r s ≡ j → after j k ≡ refused n → n ∈ allowed
+      go (refused m) h e = said m n e (x s m h)
+      go (accepted a t) h e = f a s t h t n e
 
   seq : {A B : Type 0} {r : Reader A} {q : Reader B} → Numbered allowed r → Numbered allowed q → Numbered allowed (r >> q)
   unfolding _>>_ _>>=_
@@ -97,6 +107,7 @@ module _ (allowed : List ℕ) (missing : bytesMissing ∈ allowed) (due : markNo
   numbered : Closed (λ n. n ∈ allowed) AlwaysNumbered
   numbered = record {
     bind = λ x y. bind x y;
+    told = λ x h f. told x (λ a s t e. f a s t e .1);
     more = λ x h. x;
     choice = λ kind x y h. choice kind x y;
     present = λ x h. seq (presents _) x;
@@ -109,8 +120,8 @@ module _ (allowed : List ℕ) (missing : bytesMissing ∈ allowed) (due : markNo
   }
 
   -- ---- one activity record, any other's beginning, and the end of a plan
-  an-activity : activityOutOfRange ∈ allowed → Numbered allowed activity
-  an-activity range = one-activity (λ n. n ∈ allowed) AlwaysNumbered numbered due range
+  an-activity : activityOutOfRange ∈ allowed → tooManyActivities ∈ allowed → (before : List Activity) → Numbered allowed (another before)
+  an-activity range many = one-activity (λ n. n ∈ allowed) AlwaysNumbered numbered due range many
 
   begins : (m k : ℕ) → Numbered allowed (begin m k)
   unfolding begin
@@ -139,10 +150,12 @@ module _ (allowed : List ℕ) (missing : bytesMissing ∈ allowed) (due : markNo
       (λ o. bind (some-years (λ n. n ∈ allowed) AlwaysNumbered numbered own′ _ _ _) (λ l. given _))
 
 abbrev pub recordCauses : List ℕ
-recordCauses = bytesMissing ∷ markNotDue ∷ activityOutOfRange ∷ []
+recordCauses = bytesMissing ∷ markNotDue ∷ activityOutOfRange ∷ tooManyActivities ∷ []
 
-pub activity-causes : Numbered recordCauses activity
-activity-causes = an-activity recordCauses (listed bytesMissing recordCauses tt) (listed markNotDue recordCauses tt) (listed activityOutOfRange recordCauses tt)
+pub another-causes : (before : List Activity) → Numbered recordCauses (another before)
+another-causes =
+    an-activity recordCauses (listed bytesMissing recordCauses tt) (listed markNotDue recordCauses tt) (listed activityOutOfRange recordCauses tt)
+    (listed tooManyActivities recordCauses tt)
 
 pub begin-causes : (m k : ℕ) → Numbered recordCauses (begin m k)
 begin-causes = begins recordCauses (listed bytesMissing recordCauses tt) (listed markNotDue recordCauses tt)

@@ -17,14 +17,15 @@ use Rattle.figures.specs.declared.Figures.{Figures}
 use Rattle.figures.specs.Figures.{displacedEmissions, reductionOf, creditedOf, figuresOf, smallActivity}
 use Rattle.wire.specs.Bytes.{number, bytes, numbers, bytesOfEach, joined, total}
 use Rattle.dossier.specs.Marks.{HD, PL}
-use Rattle.dossier.specs.Layouts.{activityBytes, same, fresh}
+use Rattle.dossier.specs.Layouts.{residueOf, activityBytes, same, fresh}
 use Rattle.dossier.specs.Plan.{planYearBytes, planBytes}
 use Rattle.dossier.specs.Records.{stocksBytes, matrixBytes}
 use Rattle.dossier.specs.Claims.{numberOf}
 use Rattle.dossier.specs.Reader.{_>>=_, _>>_, give, refuse, mark, stands, upon, ifAny, present, begin, field, fields, outside, within, equal, holds, nothing}
 use Rattle.dossier.specs.JudgingRecords.{head, each, stocks, matrix, inRange, fieldsOf, activityMark, activityUnder, activity}
-use Rattle.dossier.specs.Judging.{run, activities}
+use Rattle.dossier.specs.Judging.{another, run, activities}
 use Rattle.dossier.specs.JudgingPlan.{planYear, planEnd, planYears, plan, lentPlan}
+use Rattle.dossier.proofs.Longest.{residueOn}
 
 -- HD with its three fields
 abbrev headOf : ℕ → ℕ → ℕ → List ℕ
@@ -52,7 +53,8 @@ matrices : (numberOf (matrix (matrixBytes optionOneMatrix)) ≡ 0) × (numberOf 
 unfolding sum listed deforestationProbabilities optionOne optionOneMatrix number bytes numbers bytesOfEach joined matrixBytes _>>=_ _>>_ give mark present begin fields equal each matrix
 matrices = (refl, refl)
 
--- each limit of an activity record, and its neighbour out of range; 394 × 501,001 × 5,066 is 10^12 + 4, the least product of VE above its limit
+-- each limit of an activity record, and its neighbour out of range; 394 × 501,001 × 5,066 is 10^12 + 4, the least product of VE above its limit;
+-- 65,536 × 65,536 is 0 in 32 bits
 abbrev limits : List (Activity × Activity)
 limits =
     (Fuel 1 0, Fuel 0 0) ∷ (Fuel 3 0, Fuel 4 0) ∷ (Fuel 1 1_000_000_000_000, Fuel 1 1_000_000_000_001)
@@ -62,6 +64,11 @@ limits =
     ∷ (Nitrogen 1 1 0 0, Nitrogen 0 1 0 0) ∷ (Nitrogen 3 1 0 0, Nitrogen 4 1 0 0) ∷ (Nitrogen 1 1 0 0, Nitrogen 1 0 0 0) ∷ (Nitrogen 1 2 0 0, Nitrogen 1 3 0 0)
     ∷ (Nitrogen 1 1 10_000_000_000 0, Nitrogen 1 1 10_000_000_001 0) ∷ (Nitrogen 1 1 0 10_000, Nitrogen 1 1 0 10_001)
     ∷ (Lime 1 0, Lime 0 0) ∷ (Lime 3 0, Lime 4 0) ∷ (Lime 1 1_000_000_000_000, Lime 1 1_000_000_000_001)
+    ∷ (residueOf 1 0 0 0 0 0 0 0, residueOf 0 0 0 0 0 0 0 0) ∷ (residueOf 2 0 0 0 0 0 0 0, residueOf 3 0 0 0 0 0 0 0)
+    ∷ (residueOf 1 0 4_294_967_295 0 0 0 0 0, residueOf 1 65_536 65_536 0 0 0 0 0) ∷ (residueOf 1 4_294_967_295 0 0 0 0 0 0, residueOf 1 4_294_967_295 4_294_967_295 0 0 0 0 0)
+    ∷ (residueOf 1 10_000 10_000 0 0 0 0 0, residueOf 1 1 100_000_001 0 0 0 0 0) ∷ (residueOf 1 0 0 10_000 0 0 0 0, residueOf 1 0 0 10_001 0 0 0 0)
+    ∷ (residueOf 1 0 0 0 500 0 0 0, residueOf 1 0 0 0 501 0 0 0) ∷ (residueOf 1 0 0 0 0 500 0 0, residueOf 1 0 0 0 0 501 0 0)
+    ∷ (residueOf 1 0 0 0 0 0 10_000 0, residueOf 1 0 0 0 0 0 10_001 0) ∷ (residueOf 1 0 0 0 0 0 0 10_000, residueOf 1 0 0 0 0 0 0 10_001)
     ∷ []
 
 -- from the bytes: the limit is taken, its neighbour 8
@@ -74,7 +81,8 @@ unfolding number bytes total activityBytes _>>=_ _>>_ give present field outside
 limits-hold = (refl, refl)
 
 -- a plan (#103): none, EN alone, rising years, and the first year and the last that 16 bits say; 12 for equal or falling years, EN missing or cut, a byte
--- after it, a mark that is not due; #105: other records are no pair, a pair is 14 before what follows it, and after what comes before it
+-- after it, a mark that is not due; #105: other records are no pair, a pair is 14 before what follows it, and after what comes before it; #106: two of CR
+-- are no fault, a pair of them is 14, and a third is 12, whether it equals one of them or not
 abbrev plan-of : List ℕ → List ℕ
 plan-of ys = planBytes (map (λ (y : ℕ). record { year = y; activities = Lime 1 1 ∷ [] }) ys)
 
@@ -89,9 +97,18 @@ plans : (numberAs [] ≡ 0) × (numberAs (plan-of []) ≡ 0) × (numberAs (plan-
     × (numberAs (take 16 (plan-of (2020 ∷ []))) ≡ 12) × (numberAs (plan-of [] ++ (0 ∷ [])) ≡ 12) × (numberAs (bytes 2 PL ++ plan-of []) ≡ 12)
     × (numberAs (plan-with (Lime 1 1 ∷ Fuel 1 1 ∷ Lime 1 2 ∷ [])) ≡ 0) × (numberAs (plan-with (Lime 1 1 ∷ Fuel 1 1 ∷ Lime 1 1 ∷ [])) ≡ 14)
     × (numberAs (plan-with (Lime 1 1 ∷ Lime 1 1 ∷ Lime 4 1 ∷ [])) ≡ 14) × (numberAs (plan-with (Lime 4 1 ∷ Lime 1 1 ∷ Lime 1 1 ∷ [])) ≡ 12)
+    × (numberAs (plan-with (residueOn 1 ∷ residueOn 2 ∷ [])) ≡ 0) × (numberAs (plan-with (residueOn 1 ∷ residueOn 1 ∷ [])) ≡ 14)
+    × (numberAs (plan-with (residueOn 1 ∷ residueOn 2 ∷ residueOn 3 ∷ [])) ≡ 12) × (numberAs (plan-with (residueOn 1 ∷ residueOn 2 ∷ residueOn 1 ∷ [])) ≡ 12)
 unfolding number bytes joined total _>>=_ _>>_ give refuse mark stands upon ifAny present begin field outside within holds nothing inRange fieldsOf activityMark activityUnder activity
-    activityBytes same fresh planYearBytes planBytes run activities planYear planEnd planYears plan lentPlan
-plans = (refl, refl, refl, refl, refl, refl, refl, refl, refl, refl, refl, refl, refl, refl)
+    activityBytes same fresh planYearBytes planBytes another run activities planYear planEnd planYears plan lentPlan
+plans = (refl, refl, refl, refl, refl, refl, refl, refl, refl, refl, refl, refl, refl, refl, refl, refl, refl, refl)
+
+-- CR: 2 ha of 10,000 kg, whose residues above the ground weigh as much and have a ten-thousandth of nitrogen; none; and as much as there can be of either crop
+residues-emit : (activityGrams (residueOf 1 2 10_000 10_000 100 0 1 0) ≡ 11_473) × (activityGrams (residueOf 1 0 4_294_967_295 10_000 500 500 10_000 10_000) ≡ 0)
+    × (activityGrams (residueOf 1 10_000 10_000 10_000 500 500 10_000 10_000) ≡ 5_736_500_000_000)
+    × (activityGrams (residueOf 2 10_000 10_000 10_000 500 500 10_000 10_000) ≡ 2_458_500_000_000)
+unfolding ceilDiv numerator denominator activityGrams
+residues-emit = (refl, refl, refl, refl)
 
 -- project 1,908,170 with planned limestone: 228,247 g are small enough, 228,248 g are not, for both sides are 2,008,600 then
 abbrev with-limestone : ℕ → Figures

@@ -21,16 +21,16 @@ use Rattle.dossier.proofs.Longest.{longest}
 use Rattle.dossier.proofs.Walk.{openings, some-years}
 use Rattle.dossier.proofs.SettleSteps.{andLeft, SettledBy, AnyCause, settles, bind-alike, bind, given}
 
--- 806 + 20 × 3,216 + 6 bytes, for an opening read from bytes has at most 20 years
-dossier-alike : (plan : Option Plan) (s t : List ℕ) → Bytes s → 65132 ≤ length s → dossier plan (s ++ t) ≡ andLeft t (dossier plan s)
+-- 806 + 20 × 3,228 + 6 bytes, for an opening read from bytes has at most 20 years
+dossier-alike : (plan : Option Plan) (s t : List ℕ) → Bytes s → 65372 ≤ length s → dossier plan (s ++ t) ≡ andLeft t (dossier plan s)
 unfolding dossier
-dossier-alike plan s t bs h = bind-alike _ (openings AnyCause SettledBy settles (λ n h. tt)) 64326 s t h (λ o u e l.
+dossier-alike plan s t bs h = bind-alike _ (openings AnyCause SettledBy settles (λ n h. tt)) 64566 s t h (λ o u e l.
     let n = opening-exact .only s bs (omega arith) o u e .1 .head .count .most in
     bind (some-years AnyCause SettledBy settles (λ n h. tt) _ _ _) (λ ys. given _) .alike u t (omega arith))
 
 module _ (plan : Option Plan) (lent : PlanLent plan) where
   -- none so long is accepted
-  long-alike : (s t : List ℕ) → Bytes s → 65132 ≤ length s → dossier plan (s ++ t) ≡ dossier plan s
+  long-alike : (s t : List ℕ) → Bytes s → 65372 ≤ length s → dossier plan (s ++ t) ≡ dossier plan s
   long-alike s t bs h = dossier-alike plan s t bs h ∙ go (dossier plan s) refl
     where
       go : (j : Judged Dossier) → dossier plan s ≡ j → andLeft t j ≡ j
@@ -40,7 +40,7 @@ module _ (plan : Option Plan) (lent : PlanLent plan) where
   pub first-bytes-settle : (s : List ℕ) → Bytes s → dossier plan (take 65536 s) ≡ dossier plan s
   first-bytes-settle s bs = go (ltb 65536 (length s)) (ltb-true _ _) (ltb-false _ _)
     where
-      cut : 65536 ≤ length s → 65132 ≤ length (take 65536 s)
+      cut : 65536 ≤ length s → 65372 ≤ length (take 65536 s)
       cut h = rw (length-take-le 65536 s h) (omega arith)
 
       go : (b : Bool) → (b ≡ true → 65536 < length s) → (b ≡ false → length s ≤ 65536) → dossier plan (take 65536 s) ≡ dossier plan s

@@ -9,7 +9,7 @@ use lib.Seq.{drop-drop}
 use Rattle.activity.specs.declared.Activity.{Activity}
 use Rattle.activity.specs.Activity.{Range, ranges, InRanges, ActivityInRange}
 use Rattle.wire.specs.Bytes.{Bytes, number, bytes, total}
-use Rattle.dossier.specs.Layouts.{Made, Layout, inFields, activityBytes}
+use Rattle.dossier.specs.Layouts.{Made, Layout, layoutOf, inFields, activityBytes}
 use Rattle.dossier.specs.Reader.{accepted, _>>=_, _>>_, give, present, field, within}
 use Rattle.dossier.specs.JudgingRecords.{inRange, madeFrom, fieldsOf}
 use Rattle.wire.proofs.BytesLaws.{length-bytes, bytes-drop, split, take-bytes, drop-bytes}
@@ -37,16 +37,16 @@ abbrev pub Fit : (widths : List ℕ) → Numbers widths → Type 0
 Fit [] xs = Unit {0}
 Fit (w ∷ widths) xs = (xs .0 < 256 ^ w) × Fit widths (xs .1)
 
--- the bytes of the longest activity record
-abbrev pub longestRecord : ℕ
-longestRecord = 15
+-- how many bytes a record has
+abbrev pub sizeOf : Activity → ℕ
+sizeOf a = 2 + total (layoutOf a .widths)
 
--- what a row has to have: its mark is one of two bytes, its records' numbers fit its fields, these are its records' bytes, and they are not too many
+-- what a row has to have: its mark is one of two bytes, its records are its own, their numbers fit its fields, and these are their bytes
 pub record Right (l : Layout) : Type 0 where
   pub small : l .mark < 65536
   pub fit : (xs : Numbers (l .widths)) → ActivityInRange (recordOf (l .widths) (l .made) xs) → Fit (l .widths) xs
+  pub own : (xs : Numbers (l .widths)) → layoutOf (recordOf (l .widths) (l .made) xs) ≡ l
   pub bytes : (xs : Numbers (l .widths)) → activityBytes (recordOf (l .widths) (l .made) xs) ≡ bytes 2 (l .mark) ++ fieldBytes (l .widths) xs
-  pub short : 2 + total (l .widths) ≤ longestRecord
 
 -- ---- the ranges
 inRange-reads : (rs : List Range) (a : Activity) (t : List ℕ) → InRanges rs → inRange rs a t ≡ accepted a t
@@ -134,5 +134,11 @@ module _ (l : Layout) where
       let k = row-accepted s q in
       ap (λ (u : List ℕ). bytes 2 (l .mark) ++ u) (fields-numbersAt (l .widths) s bs (k .long)) ∙ rw (k .left, ← append-assoc, ← r .bytes _, k .made)
 
-  pub row-length : Right l → (xs : Numbers (l .widths)) → length (activityBytes (recordOf (l .widths) (l .made) xs)) ≤ longestRecord
-  row-length r xs = rw (r .bytes xs, length-append, length-bytes, length-fields (l .widths) xs) (r .short)
+  -- its record is the row's own, and its fields were taken
+  pub row-took : Right l → (s : List ℕ) {a : Activity} {t : List ℕ} → fieldsOf l s ≡ accepted a t → (layoutOf a ≡ l) × (length s ≡ total (l .widths) + length t)
+  row-took r s q =
+      let k = row-accepted s q in
+      (rw (← k .made) (r .own _), rw (← k .left, length-drop) (omega (arith, k .long)))
+
+  pub row-length : Right l → (xs : Numbers (l .widths)) → let a = recordOf (l .widths) (l .made) xs in length (activityBytes a) ≡ sizeOf a
+  row-length r xs = rw (r .bytes xs, r .own xs, length-append, length-bytes, length-fields (l .widths) xs)

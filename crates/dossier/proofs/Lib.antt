@@ -11,6 +11,7 @@ pub mod OpeningLaws
 pub mod LayoutLaws
 pub mod ActivityLaws
 pub mod SameLaws
+pub mod ResidueLaws
 pub mod RunLaws
 pub mod TakenLaws
 pub mod YearLaws

@@ -82,7 +82,7 @@ last-year k least s bs q = go (begin PY 2 s) refl q
         record {
           years = [];
           year = number (take 2 u);
-          inOrder = (record { years = w; activities = record { count = omega arith; each = tt; different = tt } }, tt);
+          inOrder = (record { years = w; activities = record { count = omega arith; residueCount = omega arith; each = tt; different = tt } }, tt);
           room = omega arith;
           recordBytes = drop 2 u;
           repeats = refused-repeats (drop 2 u) (bytes-drop 2 u bu) (a ∙ ap (λ (m : ℕ). refused m) z);

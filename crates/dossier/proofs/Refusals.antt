@@ -8,16 +8,14 @@ use native.Mathlib.Omega.{arith}
 use borrow.Author.Tests.{lt-ltb, le-ltb, eq-eqb, ne-eqb}
 use lib.Dec.{ltb, eqb, lit<}
 use lib.ListN.{length, take, drop, length-append, length-drop, drop-of-length-le}
-use Rattle.activity.specs.declared.Activity.{Activity}
 use Rattle.wire.specs.Bytes.{number, bytes}
 use Rattle.wire.proofs.BytesLaws.{length-bytes, take-bytes}
 use Rattle.dossier.specs.Marks.{YR, EN}
 use Rattle.figures.specs.Year.{Year}
 use Rattle.dossier.specs.Plan.{recordsFor}
 use Rattle.dossier.specs.Records.{Due}
-use Rattle.dossier.specs.Reader.{refused, accepted, Reader, after, _>>_, refuse, mark, stands, is, upon, present, begin, nothing, endOfPiece}
-use Rattle.dossier.specs.JudgingRecords.{activityMark}
-use Rattle.dossier.specs.Judging.{run, activities, noneLeft, yearRecords, yearLeft, year, end}
+use Rattle.dossier.specs.Reader.{refused, accepted, Reader, after, _>>_, refuse, mark, is, upon, present, begin, nothing, endOfPiece}
+use Rattle.dossier.specs.Judging.{noneLeft, yearRecords, yearLeft, year, end}
 use Rattle.dossier.proofs.ReaderLaws.{no, was, bind-no, mark-yes, stands-short, stands-here}
 
 -- "mark, .., bytes missing": 1 where the mark is cut, 2 where it is another, however few bytes follow, 1 where the record is cut
@@ -39,15 +37,6 @@ module _ (m n : ℕ) (s : List ℕ) where
       pub begin-whole : n ≤ length (drop 2 s) → begin m n s ≡ accepted tt (drop 2 s)
       unfolding begin mark present _>>_
       begin-whole l = simp (le-ltb _ _ long, eq-eqb _ _ e, le-ltb _ _ l)
-
--- the 61st activity record: its mark alone gives 9, whatever follows it
-run-full : (k : ℕ) (before : List Activity) (s : List ℕ) → k ≡ 0 → stands activityMark s ≡ true → run k before s ≡ refused 9
-unfolding run upon refuse
-run-full k before s z e = rw (z, e)
-
-pub sixty-first : (before : List Activity) (s : List ℕ) → 60 ≤ length before → stands activityMark s ≡ true → activities before s ≡ refused 9
-unfolding activities
-sixty-first before s h e = run-full _ before s (omega arith) e
 
 -- "YR stays due there and gives 6": 1 where the record is cut, 6 where it is complete, whatever follows it
 cut-or : {A : Type 0} (n : ℕ) (b : Bool) (t : List ℕ) → after {B = A} (cond b (refused 1) (accepted (tt {0}) t)) (λ _. refuse n) ≡ refused (cond b 1 n)

@@ -9,10 +9,10 @@ use borrow.Author.Tests.{eqb-true, eq-eqb}
 use lib.Dec.{eqb}
 use lib.ListN.{getD}
 use Rattle.activity.specs.declared.Activity.{Activity}
-use Rattle.activity.specs.declared.Activity.the-variants.{Fuel, Vehicles, Nitrogen, Lime}
+use Rattle.activity.specs.declared.Activity.the-variants.{Fuel, Vehicles, Nitrogen, Lime, Residue}
 use Rattle.activity.specs.Activity.{NoneOf, AllDifferent}
-use Rattle.dossier.specs.Marks.{FU, VE, NI}
-use Rattle.dossier.specs.Layouts.{layoutOf, numbersOf, alike, same, fresh}
+use Rattle.dossier.specs.Marks.{FU, VE, NI, LI}
+use Rattle.dossier.specs.Layouts.{residueOf, layoutOf, numbersOf, alike, same, fresh}
 
 pub false-true : {b : Bool} → b ≡ false → b ≡ true → ⊥
 false-true f t = let z : _≡_ {A = ℕ} 1 0 = ap (λ (b : Bool). cond b 0 1) (sym f ∙ t) in absurd (omega arith)
@@ -37,7 +37,9 @@ recordFrom : (mark : ℕ) → List ℕ → Activity
 recordFrom m xs =
     cond (eqb m FU) (Fuel (getD xs 0 0) (getD xs 1 0))
     (cond (eqb m VE) (Vehicles (getD xs 0 0) (getD xs 1 0) (getD xs 2 0) (getD xs 3 0))
-    (cond (eqb m NI) (Nitrogen (getD xs 0 0) (getD xs 1 0) (getD xs 2 0) (getD xs 3 0)) (Lime (getD xs 0 0) (getD xs 1 0))))
+    (cond (eqb m NI) (Nitrogen (getD xs 0 0) (getD xs 1 0) (getD xs 2 0) (getD xs 3 0))
+    (cond (eqb m LI) (Lime (getD xs 0 0) (getD xs 1 0))
+    (residueOf (getD xs 0 0) (getD xs 1 0) (getD xs 2 0) (getD xs 3 0) (getD xs 4 0) (getD xs 5 0) (getD xs 6 0) (getD xs 7 0)))))
 
 told : (a : Activity) → recordFrom (layoutOf a .mark) (numbersOf a) ≡ a
 unfolding recordFrom
@@ -45,6 +47,7 @@ told (Fuel kind grams) = refl
 told (Vehicles kind count average rate) = refl
 told (Nitrogen source crop grams content) = refl
 told (Lime material grams) = refl
+told (Residue r) = refl
 
 pub same-eq : (a b : Activity) → same a b ≡ true → a ≡ b
 unfolding same

@@ -50,6 +50,19 @@ bind {A} {B} {m} {n} {r} {k} x y = record {
     go l (refused c) h = tt
     go l (accepted a u) h = y a .leaves u l h
 
+-- with what is told of each value that r accepts
+told : {A B : Type 0} {m most : ℕ} {r : Reader A} {k : A → Reader B} → Settles m r → m ≤ most
+    → ((a : A) (s t : List ℕ) → r s ≡ accepted a t → (n : ℕ) × Settles n (k a) × (length s + n ≤ most + length t)) → Settles most (r >>= k)
+unfolding _>>=_
+told {A} {B} {m} {most} {r} {k} x g f = record {
+  alike = λ s t h. bind-alike k x 0 s t (omega arith) (λ a u e l. let (n, y, i) = f a s u e in y .alike u t (omega arith));
+  leaves = λ s l h. go s l h (r s) refl;
+}
+  where
+    go : (s : List ℕ) (l : ℕ) → most + l ≤ length s → (j : Judged A) → r s ≡ j → Leaves l (after j k)
+    go s l h (refused c) e = tt
+    go s l h (accepted a u) e = let (n, y, i) = f a s u e in y .leaves u l (omega arith)
+
 -- more bytes settle it too
 more : {A : Type 0} {m n : ℕ} {r : Reader A} → Settles m r → m ≤ n → Settles n r
 more x h = record { alike = λ s t l. x .alike s t (omega arith); leaves = λ s l k. x .leaves s l (omega arith) }
@@ -134,6 +147,7 @@ AnyCause n = Unit {0}
 pub settles : Closed AnyCause SettledBy
 settles = record {
   bind = λ x y. bind x y;
+  told = λ x h f. told x h f;
   more = λ x h. more x h;
   choice = λ kind x y h. choice kind x y h;
   present = λ x h. presents x h;

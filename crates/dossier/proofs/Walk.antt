@@ -1,14 +1,16 @@
 -- One walk over the readers: what every step of a reader has, and every reader made of such, the reader of each record has, of the run, of the years.
 -- Assumes nothing.
 use Prim.Native.Nat.{ℕ, zero, suc, _+_, _*_, _-_, _≤_}
-use mathlib.Core.Path.{_≡_}
+use mathlib.Core.Path.{_≡_, refl}
 use mathlib.Core.Bool.{Bool, true, false, cond}
 use mathlib.Core.Option.{Option, none, some}
 use mathlib.Core.List.{List, [], _∷_, _++_}
 use native.Mathlib.Omega.{arith}
-use lib.Dec.{T, eqb}
+use borrow.Author.Tests.{ltb-false}
+use lib.Dec.{T, ltb, eqb, lit≤}
+use lib.ListN.{length}
 use Rattle.activity.specs.declared.Activity.{Activity}
-use Rattle.activity.specs.Activity.{Range, ranges}
+use Rattle.activity.specs.Activity.{Range, ranges, residues}
 use Rattle.figures.specs.Year.{Year}
 use Rattle.wire.specs.Bytes.{total}
 use Rattle.dossier.specs.Causes.{
@@ -27,20 +29,23 @@ use Rattle.dossier.specs.Causes.{
   yearCauses,
   _∈_,
 }
-use Rattle.dossier.specs.Marks.{ST, YR, PL, EN}
+use Rattle.dossier.specs.Marks.{ST, YR, CR, PL, EN}
 use Rattle.dossier.specs.Layouts.{Made, Layout, layouts}
 use Rattle.dossier.specs.Records.{Due, next}
-use Rattle.dossier.specs.Reader.{Reader, _>>=_, _>>_, give, refuse, mark, is, upon, ifAny, present, begin, field, fields, outside, within, equal, holds, nothing}
+use Rattle.dossier.specs.Reader.{accepted, Reader, _>>=_, _>>_, give, refuse, mark, is, upon, ifAny, present, begin, field, fields, outside, within, equal, holds, nothing}
 use Rattle.dossier.specs.JudgingRecords.{head, each, stocks, stocksIfAny, areas, matrix, matrixUnder, conversions, inRange, madeFrom, fieldsOf, rowUnder, activityMark, activityUnder, activity}
-use Rattle.dossier.specs.Judging.{opening, run, activities, fromThePlan, taken, noneLeft, yearRecords, yearLeft, year, end, years}
+use Rattle.dossier.specs.Judging.{opening, another, run, activities, fromThePlan, taken, noneLeft, yearRecords, yearLeft, year, end, years}
 use Rattle.dossier.proofs.ReaderLaws.{bind-bind}
 use Rattle.dossier.proofs.CauseLaws.{member, listed}
-use Rattle.dossier.proofs.LayoutLaws.{longestRecord}
-use Rattle.dossier.proofs.ActivityLaws.{AllRight, all-right}
+use Rattle.dossier.proofs.ActivityLaws.{size-most, activity-took}
+use Rattle.dossier.proofs.ResidueLaws.{ordinary, ordinaryActivity, only-ordinary, one-residue-more, another-only, another-few}
 
 -- P m r: the reader r, which m bytes are enough for and which refuses for allowed causes alone, has P. What P has to have:
 pub record Closed (Allowed : ℕ → Type 0) (P : (A : Type 0) → ℕ → Reader A → Type 0) : Type 1 where
   pub bind : {A B : Type 0} {m n : ℕ} {r : Reader A} {k : A → Reader B} → P _ m r → ((a : A) → P _ n (k a)) → P _ (m + n) (r >>= k)
+  -- with what is told of each value that r accepts: the bytes that it took and those enough for k are no more than most
+  pub told : {A B : Type 0} {m most : ℕ} {r : Reader A} {k : A → Reader B} → P _ m r → m ≤ most
+      → ((a : A) (s t : List ℕ) → r s ≡ accepted a t → (n : ℕ) × P _ n (k a) × (length s + n ≤ most + length t)) → P _ most (r >>= k)
   pub more : {A : Type 0} {m n : ℕ} {r : Reader A} → P _ m r → m ≤ n → P _ n r
   pub choice : {A : Type 0} {m : ℕ} {r q : Reader A} (kind : ℕ → Bool) → P _ m r → P _ m q → 2 ≤ m → P _ m (upon kind r q)
   pub present : {A : Type 0} {m n : ℕ} {r : Reader A} → P _ m r → n ≤ m → P _ m (present n >> r)
@@ -50,6 +55,11 @@ pub record Closed (Allowed : ℕ → Type 0) (P : (A : Type 0) → ℕ → Reade
   pub fields : (k w : ℕ) → P _ (k * w) (fields k w)
   pub mark : (m : ℕ) → P _ 2 (mark m)
   pub nothing : P _ 1 nothing
+
+-- the fields of each row have at most so many bytes
+abbrev Short : ℕ → List Layout → Type 0
+Short most [] = Unit {0}
+Short most (l ∷ rest) = (total (l .widths) ≤ most) × Short most rest
 
 -- a record that begins, and its fields
 begin-then : {A : Type 0} (m n : ℕ) (r : Reader A) → _≡_ {A = Reader A} (begin m n >> r) (mark m >> (present n >> r))
@@ -129,7 +139,7 @@ module _ (Allowed : ℕ → Type 0) (P : (A : Type 0) → ℕ → Reader A → T
         c .bind heads (λ h. c .bind if-filed (λ s. c .bind (some-areas _ _) (λ p. c .bind (some-areas _ _) (λ b. c .bind (under (h .option)) (λ m. c .give _)))))
 
   -- ---- an activity record: any row of the table, any table
-  module _ (other : Allowed markNotDue) (range : Allowed activityOutOfRange) where
+  module _ (other : Allowed markNotDue) (range : Allowed activityOutOfRange) (many : Allowed tooManyActivities) where
     in-range : (rs : List Range) (a : Activity) → P _ 0 (inRange rs a)
     unfolding inRange
     in-range [] a = c .give a
@@ -140,29 +150,57 @@ module _ (Allowed : ℕ → Type 0) (P : (A : Type 0) → ℕ → Reader A → T
     made-from [] a = in-range (ranges a) a
     made-from (w ∷ widths) made = c .bind (c .field w) (λ x. made-from widths (made x))
 
-    some-row : (table : List Layout) → AllRight table → (m : ℕ) → P _ (longestRecord - 2) (rowUnder table m)
+    some-row : (most : ℕ) (table : List Layout) → Short most table → (m : ℕ) → P _ most (rowUnder table m)
     unfolding fieldsOf
-    some-row [] f m = c .more (c .refuse markNotDue other) (omega arith)
-    some-row (l ∷ rest) f m =
-        one-of (is (l .mark) m) (c .more (c .present (made-from (l .widths) (l .made)) (omega arith)) (omega (arith, f .0 .short))) (some-row rest (f .1) m)
+    some-row most [] f m = c .more (c .refuse markNotDue other) (omega arith)
+    some-row most (l ∷ rest) f m =
+        one-of (is (l .mark) m) (c .more (c .present (made-from (l .widths) (l .made)) (omega arith)) (f .0)) (some-row most rest (f .1) m)
 
-    pub an-activity : P _ longestRecord activity
-    unfolding activity activityUnder
-    an-activity = c .present (c .bind (c .field 2) (some-row layouts all-right)) (omega arith)
+    any-activity : P _ 21 activity
+    unfolding activity activityUnder total
+    any-activity = c .present (c .bind (c .field 2) (some-row 19 layouts (lit≤ tt, (lit≤ tt, (lit≤ tt, (lit≤ tt, (lit≤ tt, tt))))))) (omega arith)
+
+    ordinary-one : P _ 15 ordinaryActivity
+    unfolding ordinaryActivity total
+    ordinary-one = c .present (c .bind (c .field 2) (some-row 13 ordinary (lit≤ tt, (lit≤ tt, (lit≤ tt, (lit≤ tt, tt)))))) (omega arith)
+
+    -- after two of CR it is an ordinary one
+    pub one-activity : (before : List Activity) → P _ (cond (ltb 1 (residues before)) 15 21) (another before)
+    unfolding another
+    one-activity before = go (ltb 1 (residues before))
+      where
+        go : (b : Bool) → P _ (cond b 15 21) (upon (λ m. cond (is CR m) b false) (refuse tooManyActivities) activity)
+        go true = rw only-ordinary (c .choice _ (c .more (c .refuse tooManyActivities many) (omega arith)) ordinary-one (omega arith))
+        go false = c .choice _ (c .more (c .refuse tooManyActivities many) (omega arith)) any-activity (omega arith)
 
   -- ---- the years, where their own causes are allowed
   module _ (own : (n : ℕ) → n ∈ yearCauses → Allowed n) where
     of-year : {n : ℕ} → T (member n yearCauses) → Allowed n
     of-year {n} t = own n (listed n yearCauses t)
 
-    -- k activity records, and the mark after them
-    runs : (k : ℕ) (before : List Activity) → P _ (k * longestRecord + 2) (run k before)
+    -- k activity records, of which CR has six bytes more than any other, and the mark after them
+    abbrev runSize : (k : ℕ) → List Activity → ℕ
+    runSize k before = k * 15 + 6 * (2 - residues before) + 2
+
+    one-fits : (k : ℕ) (before : List Activity) → residues before ≤ 2 → cond (ltb 1 (residues before)) 15 21 ≤ runSize (suc k) before
+    one-fits k before few = go (ltb 1 (residues before)) (ltb-false _ _)
+      where
+        go : (b : Bool) → (b ≡ false → residues before ≤ 1) → cond b 15 21 ≤ runSize (suc k) before
+        go true h = omega arith
+        go false h = omega (arith, h refl)
+
+    runs : (k : ℕ) (before : List Activity) → residues before ≤ 2 → P _ (runSize k before) (run k before)
     unfolding run
-    runs zero before =
+    runs zero before few =
         c .choice activityMark (c .more (c .refuse tooManyActivities (of-year tt)) (omega arith)) (c .more (c .give before) (omega arith)) (omega arith)
-    runs (suc k) before =
-        let one-more = c .bind (an-activity (of-year tt) (of-year tt)) (λ a. seq (held recordRepeated _ (of-year tt)) (runs k (before ++ (a ∷ [])))) in
-        c .choice activityMark (c .more one-more (omega arith)) (c .more (c .give before) (omega arith)) (omega arith)
+    runs (suc k) before few =
+        c .choice activityMark (c .told (one-activity (of-year tt) (of-year tt) (of-year tt) before) (one-fits k before few) (λ a s t e.
+        let still = another-few before s e few in (
+          0 + runSize k (before ++ (a ∷ [])),
+          seq (held recordRepeated _ (of-year tt)) (runs k (before ++ (a ∷ [])) still),
+          omega (arith, still, one-residue-more before a, activity-took s (another-only before s e), size-most a),
+        )))
+        (c .more (c .give before) (omega arith)) (omega arith)
 
     none-lefts : {A : Type 0} → P _ 6 (noneLeft {A = A})
     unfolding noneLeft
@@ -178,24 +216,24 @@ module _ (Allowed : ℕ → Type 0) (P : (A : Type 0) → ℕ → Reader A → T
     from-the-plan (some records) = c .give _
 
     -- own records, or PL
-    records-taken : (fromPlan : Option (List Activity)) → P _ 902 (taken fromPlan)
+    records-taken : (fromPlan : Option (List Activity)) → P _ 914 (taken fromPlan)
     unfolding taken activities
     records-taken fromPlan =
-        c .choice (is PL) (c .more (seq (c .mark PL) (from-the-plan fromPlan)) (omega arith)) (c .bind (runs 60 []) (λ l. c .give _)) (omega arith)
+        c .choice (is PL) (c .more (seq (c .mark PL) (from-the-plan fromPlan)) (omega arith)) (c .bind (runs 60 [] (omega arith)) (λ l. c .give _)) (omega arith)
 
-    years-records : (fromPlan : Option (List Activity)) (dueYear left start beltstart : ℕ) → P _ 3216 (yearLeft fromPlan dueYear left start beltstart)
+    years-records : (fromPlan : Option (List Activity)) (dueYear left start beltstart : ℕ) → P _ 3228 (yearLeft fromPlan dueYear left start beltstart)
     unfolding yearLeft yearRecords
     years-records fromPlan dueYear left start beltstart =
         one-of (eqb left 0) (c .more none-lefts (omega arith))
         (begins _ (c .bind (c .field 2) (λ y. c .bind (c .field 2) (λ d. seq (equals yearWrong _ _ (of-year tt)) (seq (withins yearWrong _ _ _ (of-year tt))
         (c .bind (some-conversions _ _) (λ p. c .bind (some-conversions _ _) (λ b. c .bind (records-taken fromPlan) (λ l. c .give _)))))))) (omega arith))
 
-    pub a-year : (due : Due) → P _ 3216 (year due)
+    pub a-year : (due : Due) → P _ 3228 (year due)
     unfolding year
     a-year due = c .bind (years-records _ _ _ _ _) (λ y. seq (held plannedYearWrong _ (of-year tt)) (c .give y))
 
     -- k years; then EN and a byte after it, or YR with its fields
-    pub some-years : (k : ℕ) (due : Due) (before : List Year) → P _ (k * 3216 + 6) (years k due before)
+    pub some-years : (k : ℕ) (due : Due) (before : List Year) → P _ (k * 3228 + 6) (years k due before)
     unfolding years end
     some-years zero due before = seq (c .choice (is YR) none-lefts (c .more (seq (c .mark EN) (c .nothing)) (omega arith)) (omega arith)) (c .give before)
     some-years (suc k) due before = c .more (c .bind (a-year due) (λ y. some-years k (next y due) (before ++ (y ∷ [])))) (omega arith)

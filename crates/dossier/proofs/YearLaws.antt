@@ -3,6 +3,7 @@
 use Prim.Native.Nat.{ℕ, _<_, _≤_}
 use mathlib.Core.Path.{_≡_, refl, _∙_, ap, sym}
 use mathlib.Core.Bool.{Bool, true, false, cond}
+use mathlib.Core.Logic.{⊎-elim}
 use mathlib.Core.Option.{Option}
 use mathlib.Core.List.{List, [], _∷_, _++_, append-assoc, append-nil}
 use native.Mathlib.Omega.{arith}
@@ -25,12 +26,13 @@ use Rattle.dossier.specs.JudgingRecords.{activityMark}
 use Rattle.dossier.specs.Judging.{activities, taken, noneLeft, yearRecords, yearLeft, allowed, year}
 use Rattle.wire.proofs.BytesLaws.{length-bytes}
 use Rattle.dossier.proofs.ReaderLaws.{no, step, begin-only, within-yes, equal-yes, stands-bytes}
-use Rattle.dossier.proofs.Refusals.{sixty-first, none-left, leftFor, left-refused}
+use Rattle.dossier.proofs.Refusals.{none-left, leftFor, left-refused}
 use Rattle.dossier.proofs.YearRefusals.{yearRecord, year-fields}
 use Rattle.dossier.proofs.Exact.{Exact, begin-first, field-then, within-then, equal-then}
 use Rattle.dossier.proofs.ExactParts.{Any, sub-then, last-then, checked, restated}
 use Rattle.dossier.proofs.RecordLaws.{conversions-exact}
-use Rattle.dossier.proofs.RunLaws.{runBytes, activities-continue}
+use Rattle.dossier.proofs.ResidueLaws.{third-activity}
+use Rattle.dossier.proofs.RunLaws.{TooMany, too-many, runBytes, activities-continue}
 use Rattle.dossier.proofs.TakenLaws.{Follows, run-not-planned, taken-own, taken-exact}
 
 -- a year in range, and what may follow its records
@@ -196,15 +198,15 @@ module _ (due : Due) (h : DueInRange due) (y : Year) (p : TablesInRange due y) w
         f,
       )))
 
--- 60 activity records of its own, and the mark of one more: 9, whatever follows the mark
-pub sixty-one : (fromPlan : Option (List Activity)) (l : List Activity) (s : List ℕ) → length l ≡ 60 → RunInRange l → stands activityMark s ≡ true → taken fromPlan (runBytes l ++ s) ≡ refused 9
-sixty-one fromPlan l s n r m =
-    let f : activities [] (runBytes l ++ s) ≡ refused 9 = activities-continue [] l s (omega arith) (r .each) (r .different) ∙ sixty-first l s (omega arith) m in
-    taken-own fromPlan (runBytes l ++ s) (run-not-planned l s m) ∙ rw f
+-- activity records of its own, and the mark of one too many: 9, whatever follows the mark
+pub one-too-many : (fromPlan : Option (List Activity)) (l : List Activity) (s : List ℕ) → RunInRange l → TooMany l s → taken fromPlan (runBytes l ++ s) ≡ refused 9
+one-too-many fromPlan l s r m =
+    let f : activities [] (runBytes l ++ s) ≡ refused 9 = activities-continue [] l s (omega (arith, r .count)) (r .residueCount) (r .each) (r .different) ∙ too-many l s m in
+    taken-own fromPlan (runBytes l ++ s) (run-not-planned l s (⊎-elim (λ h. h .1) (third-activity l s) m)) ∙ rw f
 
-pub year-sixty-one : (due : Due) → DueInRange due → (y : Year) → YearInRange due y → y .planned ≡ false → length (y .activities) ≡ 60 → (s : List ℕ) → stands activityMark s ≡ true
+pub year-one-too-many : (due : Due) → DueInRange due → (y : Year) → YearInRange due y → y .planned ≡ false → (s : List ℕ) → TooMany (y .activities) s
     → year due (yearBytes y ++ s) ≡ refused 9
-year-sixty-one due h y p own n s m =
+year-one-too-many due h y p own s m =
     let r : RunInRange (y .activities) = rw own at (p .records) in
     let e : yearBytes y ++ s ≡ tablesBytes y ++ (runBytes (y .activities) ++ s) = unfold yearBytes joined runBytes recordsBytes in rw own (simp (append-assoc, append-nil)) in
-    rw e (records-refused due h y (tables-of due y p) (runBytes (y .activities) ++ s) 9 (sixty-one _ (y .activities) s n r m))
+    rw e (records-refused due h y (tables-of due y p) (runBytes (y .activities) ++ s) 9 (one-too-many _ (y .activities) s r m))

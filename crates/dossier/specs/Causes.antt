@@ -34,11 +34,11 @@ yearWrong = 6
 abbrev pub conversionTotalWrong : ℕ
 conversionTotalWrong = 7
 
--- "activity field, or VE product, out of range | 8"
+-- "activity field, or VE product, out of range | 8"; "Field faults give 8" (#106)
 abbrev pub activityOutOfRange : ℕ
 activityOutOfRange = 8
 
--- "61st activity record of a year | 9"
+-- "61st activity record of a year | 9"; "a third CR gives 9" (#106)
 abbrev pub tooManyActivities : ℕ
 tooManyActivities = 9
 
@@ -50,7 +50,7 @@ bufferTooShort = 10
 abbrev pub stockOutOfRange : ℕ
 stockOutOfRange = 11
 
--- "12 for a plan not of this form" (#103)
+-- "12 for a plan not of this form" (#103); "in a plan both give 12" (#106)
 abbrev pub planNotOfForm : ℕ
 planNotOfForm = 12
 

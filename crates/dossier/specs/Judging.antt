@@ -5,15 +5,16 @@ use Prim.Native.Nat.{ℕ, zero, suc, _+_, _-_}
 use mathlib.Core.Bool.{Bool, true, false, cond}
 use mathlib.Core.Option.{Option, none, some}
 use mathlib.Core.List.{List, [], _∷_, _++_}
-use lib.Dec.{eqb}
+use lib.Dec.{ltb, eqb}
 use lib.ListN.{length}
 use Rattle.classes.specs.Calendar.{daysInYear}
 use Rattle.activity.specs.declared.Activity.{Activity}
+use Rattle.activity.specs.Activity.{residues}
 use Rattle.figures.specs.declared.Figures.{Figures}
 use Rattle.figures.specs.Year.{Year}
 use Rattle.figures.specs.Figures.{smallActivity}
 use Rattle.dossier.specs.Causes.{yearWrong, tooManyActivities, plannedYearWrong, recordRepeated}
-use Rattle.dossier.specs.Marks.{PA, DA, YR, CP, CD, PL, EN}
+use Rattle.dossier.specs.Marks.{PA, DA, YR, CP, CD, CR, PL, EN}
 use Rattle.dossier.specs.Layouts.{fresh}
 use Rattle.dossier.specs.Plan.{Plan, recordsFor}
 use Rattle.dossier.specs.Records.{Opening, Due, firstDue, next, figuresFor, Dossier}
@@ -30,11 +31,19 @@ opening = do
   m ← matrixUnder (h .option)
   give (record { head = h; stocks = filed; projectAreas = project; beltAreas = belt; matrix = m })
 
--- a year's activity records: those before are read already, up to `more` may follow. "61st activity record of a year": 9, which its mark alone
--- decides, before bytes missing; #105: 14 "after the later record's fields"
+-- #106, "a third CR gives 9": whether m is its mark, after these records
+abbrev pub thirdResidue : List Activity → (m : ℕ) → Bool
+thirdResidue before m = cond (is CR m) (ltb 1 (residues before)) false
+
+-- one more activity record after these; its mark alone decides 9, before bytes missing
+unfoldable pub another : List Activity → Reader Activity
+another before = upon (thirdResidue before) (refuse tooManyActivities) activity
+
+-- a year's activity records: those before are read already, up to `more` may follow. "61st activity record of a year": 9, by its mark alone too;
+-- #105: 14 "after the later record's fields"
 unfoldable pub run : ℕ → List Activity → Reader (List Activity)
 run zero before = upon activityMark (refuse tooManyActivities) (give before)
-run (suc more) before = upon activityMark (do a ← activity; holds recordRepeated (fresh before a); run more (before ++ (a ∷ []))) (give before)
+run (suc more) before = upon activityMark (do a ← another before; holds recordRepeated (fresh before a); run more (before ++ (a ∷ []))) (give before)
 
 -- "0 to 60 activity records", those before among them; activities-are in proofs/RunLaws is its equation without a count
 unfoldable pub activities : List Activity → Reader (List Activity)

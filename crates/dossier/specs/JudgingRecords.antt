@@ -78,7 +78,7 @@ conversions mark settledTotal = do
   equal conversionTotalWrong (total xs) settledTotal
   give xs
 
--- "activity field, or VE product": a record whose numbers are all in range
+-- "activity field, or VE product", or that of CR: a record whose numbers are all in range
 unfoldable pub inRange : List Range → Activity → Reader Activity
 inRange [] a = give a
 inRange (r ∷ rest) a = do

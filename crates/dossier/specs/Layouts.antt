@@ -6,9 +6,9 @@ use mathlib.Core.Bool.{Bool, true, false, cond}
 use mathlib.Core.List.{List, [], _∷_, _++_}
 use lib.Dec.{eqb}
 use Rattle.activity.specs.declared.Activity.{Activity}
-use Rattle.activity.specs.declared.Activity.the-variants.{Fuel, Vehicles, Nitrogen, Lime}
+use Rattle.activity.specs.declared.Activity.the-variants.{Fuel, Vehicles, Nitrogen, Lime, Residue}
 use Rattle.wire.specs.Bytes.{bytes}
-use Rattle.dossier.specs.Marks.{FU, VE, NI, LI}
+use Rattle.dossier.specs.Marks.{FU, VE, NI, LI, CR}
 
 -- a record made of a number for each field
 abbrev pub Made : List ℕ → Type 0
@@ -39,8 +39,23 @@ nitrogen = record { mark = NI; widths = bits (8 ∷ 8 ∷ 64 ∷ 16 ∷ []); mad
 abbrev pub lime : Layout
 lime = record { mark = LI; widths = bits (8 ∷ 64 ∷ []); made = Lime }
 
+-- CR with its eight numbers in their order
+abbrev pub residueOf : (crop area harvest renewed aboveRatio belowRatio aboveContent belowContent : ℕ) → Activity
+residueOf crop area harvest renewed aboveRatio belowRatio aboveContent belowContent = Residue (record {
+  crop = crop;
+  area = area;
+  harvest = harvest;
+  renewed = renewed;
+  above = record { ratio = aboveRatio; content = aboveContent };
+  below = record { ratio = belowRatio; content = belowContent };
+})
+
+-- #106: crop 8; area and yield, 32 each; renewed share, above-ground and below-ground ratio, their nitrogen contents, "these five 16 bits each"
+abbrev pub residue : Layout
+residue = record { mark = CR; widths = bits (8 ∷ 32 ∷ 32 ∷ 16 ∷ 16 ∷ 16 ∷ 16 ∷ 16 ∷ []); made = residueOf }
+
 abbrev pub layouts : List Layout
-layouts = fuel ∷ vehicles ∷ nitrogen ∷ lime ∷ []
+layouts = fuel ∷ vehicles ∷ nitrogen ∷ lime ∷ residue ∷ []
 
 -- each number in a field of its width
 abbrev pub inFields : (widths numbers : List ℕ) → List ℕ
@@ -58,12 +73,15 @@ layoutOf (Fuel kind grams) = fuel
 layoutOf (Vehicles kind count average rate) = vehicles
 layoutOf (Nitrogen source crop grams content) = nitrogen
 layoutOf (Lime material grams) = lime
+layoutOf (Residue r) = residue
 
 abbrev pub numbersOf : Activity → List ℕ
 numbersOf (Fuel kind grams) = kind ∷ grams ∷ []
 numbersOf (Vehicles kind count average rate) = kind ∷ count ∷ average ∷ rate ∷ []
 numbersOf (Nitrogen source crop grams content) = source ∷ crop ∷ grams ∷ content ∷ []
 numbersOf (Lime material grams) = material ∷ grams ∷ []
+numbersOf (Residue r) =
+    r .crop ∷ r .area ∷ r .harvest ∷ r .renewed ∷ r .above .ratio ∷ r .below .ratio ∷ r .above .content ∷ r .below .content ∷ []
 
 unfoldable pub activityBytes : Activity → List ℕ
 activityBytes a = filed (layoutOf a) (numbersOf a)

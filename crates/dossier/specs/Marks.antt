@@ -1,4 +1,4 @@
--- Document 01, "The dossier": "Each record has a two-byte mark in ASCII"; ST is of request #102, PL and PY of #103.
+-- Document 01, "The dossier": "Each record has a two-byte mark in ASCII"; ST is of request #102, PL and PY of #103, CR of #106.
 -- To be believed. Assumes nothing.
 use Prim.Native.Nat.{ℕ}
 
@@ -38,6 +38,9 @@ NI = 0x4e49
 
 abbrev pub LI : ℕ
 LI = 0x4c49
+
+abbrev pub CR : ℕ
+CR = 0x4352
 
 abbrev pub PL : ℕ
 PL = 0x504c

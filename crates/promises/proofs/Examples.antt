@@ -21,7 +21,7 @@ use Rattle.dossier.specs.Plan.{recordsFor}
 use Rattle.dossier.specs.Layouts.{activityBytes, fresh}
 use Rattle.dossier.specs.Reader.{_>>=_, _>>_, give, mark, stands, upon, ifAny, present, begin, field, fields, outside, within, equal, holds, nothing}
 use Rattle.dossier.specs.JudgingRecords.{head, stocksIfAny, areas, matrixUnder, conversions, inRange, fieldsOf, activityMark, activityUnder, activity}
-use Rattle.dossier.specs.Judging.{opening, run, activities, fromThePlan, taken, yearRecords, yearLeft, year, end, years, dossier}
+use Rattle.dossier.specs.Judging.{opening, another, run, activities, fromThePlan, taken, yearRecords, yearLeft, year, end, years, dossier}
 use Rattle.dossier.specs.JudgingPlan.{lentPlan, under}
 use Rattle.report.specs.Report.{eights, reported}
 use Rattle.reckoner.specs.Ledger.{newLedger, openedLedger, dueOf, givenYear, givenYears, ledgerOf, report}
@@ -37,7 +37,7 @@ unfolding examples caseA bufferA threeUnits
     bytes bytesOfEach joined headBytes areasBytes bytesIfAny openingBytes conversionsBytes activityBytes yearBytes dossierBytes
     number numbers total _>>=_ _>>_ give mark stands upon ifAny present begin field fields outside within equal nothing
     head stocksIfAny areas matrixUnder conversions inRange fieldsOf activityMark activityUnder activity fresh
-    opening run activities fromThePlan taken yearRecords yearLeft year end years dossier lentPlan under holds recordsFor recordsBytes
+    opening another run activities fromThePlan taken yearRecords yearLeft year end years dossier lentPlan under holds recordsFor recordsBytes
     -- classes, projection, activity records, figures
     sum listed ceilDiv carbonStocks deforestationProbabilities emissionFactor optionOne optionOneMatrix daysInYear
     projectedCarbon nextArea nextAreas lostArea openedRegion projectedRegion numerator denominator activityGrams activityEmissions

@@ -1,4 +1,4 @@
--- `activities::is_activity` meets its contract: it tests for the four marks of the definition.
+-- `activities::is_activity` meets its contract: it tests for the five marks of the definition.
 -- Assumes nothing.
 use Rattle.dossier.specs.JudgingRecords.{activityMark}
 use Rattle.activities.proofs.MarkLaws.{marking}
@@ -21,5 +21,9 @@ returns-4 : tie.Need-returns-4
 unfolding activityMark
 returns-4 c = search marking
 
+returns-5 : tie.Need-returns-5
+unfolding activityMark
+returns-5 c = search marking
+
 pub is-activity-spec : {M : Type 1} → statement M
-is-activity-spec = tie.close (tie.spec returns returns-2 returns-3 returns-4)
+is-activity-spec = tie.close (tie.spec returns returns-2 returns-3 returns-4 returns-5)

@@ -34,9 +34,16 @@ returns-4 : tie.Need-returns-4
 unfolding activityUnder activityMark
 returns-4 c = (search marking depth 8, marked _ _ (c .read-amount2 .result) (c .read-amount2 .ensures .1) (search marking))
 
+read-residue-requires : tie.Need-read-residue-requires
+read-residue-requires c κs = search needs
+
 returns-5 : tie.Need-returns-5
 unfolding activityUnder activityMark
-returns-5 c = (search marking depth 8, search marking)
+returns-5 c = (search marking depth 8, marked _ _ (c .read-residue .result) (c .read-residue .ensures .1) (search marking))
+
+returns-6 : tie.Need-returns-6
+unfolding activityUnder activityMark
+returns-6 c = (search marking depth 8, search marking)
 
 pub read-activity-spec : {M : Type 1} → statement M
 read-activity-spec =
@@ -50,4 +57,6 @@ read-activity-spec =
     returns-3
     read-amount-requires-2
     returns-4
-    returns-5)
+    read-residue-requires
+    returns-5
+    returns-6)

@@ -7,10 +7,10 @@ use Rattle.activities.proofs.read_records.Statement.{statement}
 use Rattle.activities.proofs.read_records.Tie as tie
 
 abbrev Inv-loop : tie.InvT-loop
-Inv-loop part keys₀ at₀ grams₀ count₀ keys at grams count = SoFar part keys at grams count
+Inv-loop part low₀ high₀ at₀ grams₀ count₀ residues₀ low high at grams count residues = SoFar part low high at grams count residues
 
 abbrev μ-loop : tie.MeasureT-loop
-μ-loop part keys₀ at₀ grams₀ count₀ keys at grams count = 60 - count
+μ-loop part low₀ high₀ at₀ grams₀ count₀ residues₀ low high at grams count residues = 60 - count
 
 loop-holds : tie.Need-loop-holds Inv-loop μ-loop
 loop-holds c = search (needs, none-yet)
@@ -27,6 +27,15 @@ after-sixty-requires c κs = search needs
 returns : tie.Need-returns Inv-loop μ-loop
 returns c = search (needs, running)
 
+residues-with-requires : tie.Need-residues-with-requires Inv-loop μ-loop
+residues-with-requires c κs = search needs
+
+refused-requires : tie.Need-refused-requires Inv-loop μ-loop
+refused-requires c κs = search needs
+
+returns-2 : tie.Need-returns-2 Inv-loop μ-loop
+returns-2 c = search (needs, running)
+
 add-read-activity : tie.Need-add-read-activity Inv-loop μ-loop
 add-read-activity c = search needs
 
@@ -39,11 +48,17 @@ enum-known-activity c = search needs
 key-requires : tie.Need-key-requires Inv-loop μ-loop
 key-requires c κs = search (needs, running)
 
-mul-keys : tie.Need-mul-keys Inv-loop μ-loop
-mul-keys c = search needs
+mul-low : tie.Need-mul-low Inv-loop μ-loop
+mul-low c = search needs
 
-element-write-keys : tie.Need-element-write-keys Inv-loop μ-loop
-element-write-keys c = search needs
+element-write-low : tie.Need-element-write-low Inv-loop μ-loop
+element-write-low c = search needs
+
+mul-high : tie.Need-mul-high Inv-loop μ-loop
+mul-high c = search needs
+
+element-write-high : tie.Need-element-write-high Inv-loop μ-loop
+element-write-high c = search needs
 
 emissions-requires : tie.Need-emissions-requires Inv-loop μ-loop
 emissions-requires c κs = search (needs, running)
@@ -54,8 +69,11 @@ plus-requires c κs = search (needs, running)
 enum-known-n : tie.Need-enum-known-n Inv-loop μ-loop
 enum-known-n c = search needs
 
-returns-2 : tie.Need-returns-2 Inv-loop μ-loop
-returns-2 c = search (needs, running)
+refused-requires-2 : tie.Need-refused-requires-2 Inv-loop μ-loop
+refused-requires-2 c κs = search needs
+
+returns-3 : tie.Need-returns-3 Inv-loop μ-loop
+returns-3 c = search (needs, running)
 
 enum-told : tie.Need-enum-told Inv-loop μ-loop
 enum-told c = search needs
@@ -69,11 +87,11 @@ loop-less c = search needs
 loop-again : tie.Need-loop-again Inv-loop μ-loop
 loop-again c = search (needs, running)
 
-returns-3 : tie.Need-returns-3 Inv-loop μ-loop
-returns-3 c = search (needs, running)
-
 returns-4 : tie.Need-returns-4 Inv-loop μ-loop
 returns-4 c = search (needs, running)
+
+returns-5 : tie.Need-returns-5 Inv-loop μ-loop
+returns-5 c = search (needs, running)
 
 pub read-records-spec : {M : Type 1} → statement M
 read-records-spec =
@@ -86,19 +104,25 @@ read-records-spec =
     field16-requires
     after-sixty-requires
     returns
+    residues-with-requires
+    refused-requires
+    returns-2
     add-read-activity
     read-activity-requires
     enum-known-activity
     key-requires
-    mul-keys
-    element-write-keys
+    mul-low
+    element-write-low
+    mul-high
+    element-write-high
     emissions-requires
     plus-requires
     enum-known-n
-    returns-2
+    refused-requires-2
+    returns-3
     enum-told
     add-count
     loop-less
     loop-again
-    returns-3
-    returns-4)
+    returns-4
+    returns-5)

@@ -42,6 +42,12 @@ enum-known-activity-4 c = search needs
 lime-emissions-requires : tie.Need-lime-emissions-requires
 lime-emissions-requires c κs = let h = rw (c .before .activity4 .given .1) at (c .before .before .before .pre) in (h .0, omega arith)
 
+enum-known-activity-5 : tie.Need-enum-known-activity-5
+enum-known-activity-5 c = search needs
+
+residue-emissions-requires : tie.Need-residue-emissions-requires
+residue-emissions-requires c κs = rw (c .before .activity5 .given .1) at (c .before .before .before .pre)
+
 returns : tie.Need-returns
 unfolding activityGrams numerator denominator
 returns c = rw (c .before .before .activity .given .1) (c .fuel-emissions .ensures)
@@ -58,6 +64,10 @@ returns-4 : tie.Need-returns-4
 unfolding activityGrams numerator denominator
 returns-4 c = rw (c .before .before .activity4 .given .1) (c .lime-emissions .ensures)
 
+returns-5 : tie.Need-returns-5
+unfolding activityGrams numerator denominator
+returns-5 c = rw (c .before .before .activity5 .given .1) (c .residue-emissions .ensures)
+
 pub emissions-spec : {M : Type 1} → statement M
 emissions-spec =
     tie.close
@@ -72,7 +82,10 @@ emissions-spec =
     nitrogen-emissions-requires
     enum-known-activity-4
     lime-emissions-requires
+    enum-known-activity-5
+    residue-emissions-requires
     returns
     returns-2
     returns-3
-    returns-4)
+    returns-4
+    returns-5)

@@ -35,7 +35,7 @@ sum-is : (c : tie.After-divided-up) → let n = c .before in nitrogen n / 700000
 sum-is c = rw (c .divided-up .ensures) (split-up _ _ 7000000000 (lit≤ tt))
 
 sum-le : (c : tie.After-divided-up) → ceilDiv (nitrogen (c .before) * weight (c .before)) 7000000000 ≤ greatestRecord
-sum-le c = nitrogen-le (nitrogen-most (c .before)) (weight-most (c .before))
+sum-le c = nitrogen-le (omega (arith, nitrogen-most (c .before))) (weight-most (c .before)) (lit≤ tt)
 
 n2o-share-requires : tie.Need-n2o-share-requires
 n2o-share-requires c κs = search needs

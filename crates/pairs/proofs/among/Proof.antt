@@ -1,20 +1,21 @@
--- `pairs::among` meets its contract: after j turns found says whether x is among the first j numbers.
+-- `pairs::among` meets its contract: after j turns found says whether the key is among the first j.
 -- Assumes nothing.
 use mathlib.Core.Path.{_≡_, refl}
 use Prim.Native.Nat.{_-_, _≤_}
 use native.Mathlib.Omega.{arith}
 use lib.ListN.{take}
 use borrow.Author.Needs.{needs}
-use Rattle.pairs.specs.Pairs.{among}
+use Rattle.activity.specs.Key.{twoWords}
+use Rattle.pairs.specs.Pairs.{keys, among}
 use Rattle.pairs.proofs.PairsLaws.{among-next}
 use Rattle.pairs.proofs.among.Statement.{statement}
 use Rattle.pairs.proofs.among.Tie as tie
 
 abbrev Inv-loop : tie.InvT-loop
-Inv-loop numbers count x found₀ j₀ found j = (j ≤ count) × (found ≡ among (take j numbers) x)
+Inv-loop low high count x y found₀ j₀ found j = (j ≤ count) × (found ≡ among (take j (keys low high)) (twoWords x y))
 
 abbrev μ-loop : tie.MeasureT-loop
-μ-loop numbers count x found₀ j₀ found j = count - j
+μ-loop low high count x y found₀ j₀ found j = count - j
 
 loop-holds : tie.Need-loop-holds Inv-loop μ-loop
 unfolding among
@@ -26,6 +27,12 @@ mul-found c = search needs
 element-copy-out-found : tie.Need-element-copy-out-found Inv-loop μ-loop
 element-copy-out-found c = search needs
 
+mul-found-2 : tie.Need-mul-found-2 Inv-loop μ-loop
+mul-found-2 c = search needs
+
+element-copy-out-found-2 : tie.Need-element-copy-out-found-2 Inv-loop μ-loop
+element-copy-out-found-2 c = search needs
+
 add-j : tie.Need-add-j Inv-loop μ-loop
 add-j c = search needs
 
@@ -34,9 +41,9 @@ loop-less c = search needs
 
 loop-again : tie.Need-loop-again Inv-loop μ-loop
 loop-again c =
-    let turn = c .before .before in
+    let turn = c .before .before .before in
     let args = turn .before .args in
-    (omega arith, among-next (args .numbers .now) (turn .loop .j) (args .x) (omega arith) (turn .loop .inv .1))
+    (omega arith, among-next (args .low .now) (args .high .now) (turn .loop .j) _ (omega arith) (omega arith) (turn .loop .inv .1))
 
 returns : tie.Need-returns Inv-loop μ-loop
 returns c =
@@ -52,6 +59,8 @@ among-spec =
     loop-holds
     mul-found
     element-copy-out-found
+    mul-found-2
+    element-copy-out-found-2
     add-j
     loop-less
     loop-again

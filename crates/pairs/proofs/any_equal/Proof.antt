@@ -1,22 +1,24 @@
--- `pairs::any_equal` meets its contract: after k turns the first k numbers differ, and the flag of each is set.
+-- `pairs::any_equal` meets its contract: after k turns the first k keys differ, and the flag of each is set.
 -- Assumes nothing.
 use mathlib.Core.Path.{_≡_, sym, _∙_}
-use mathlib.Core.Bool.{false}
+use mathlib.Core.Bool.{true, false}
+use mathlib.Core.List.{List}
 use mathlib.Core.Logic.{⊎-elim}
 use Prim.Native.Nat.{_-_, _≤_}
 use native.Mathlib.Omega.{arith}
-use lib.ListN.{take, getD}
+use lib.ListN.{take}
 use borrow.Author.Needs.{needs}
-use Rattle.pairs.specs.Pairs.{among}
-use Rattle.pairs.proofs.PairsLaws.{equal-found, few-differ, Passed, none-passed, unflagged, passed-next}
+use Rattle.activity.specs.declared.Words.{Words}
+use Rattle.pairs.specs.Pairs.{keys, among, slot}
+use Rattle.pairs.proofs.PairsLaws.{keyAt, equal-found, few-differ, Passed, none-passed, unflagged, passed-next}
 use Rattle.pairs.proofs.any_equal.Statement.{statement}
 use Rattle.pairs.proofs.any_equal.Tie as tie
 
 abbrev Inv-loop : tie.InvT-loop
-Inv-loop numbers count flags₀ k₀ flags k = (k ≤ count) × Passed flags (take k numbers)
+Inv-loop low high count flags₀ k₀ flags k = (k ≤ count) × Passed flags (take k (keys low high))
 
 abbrev μ-loop : tie.MeasureT-loop
-μ-loop numbers count flags₀ k₀ flags k = count - k
+μ-loop low high count flags₀ k₀ flags k = count - k
 
 -- the places: a turn of the loop, from where its slot is known; the start
 abbrev at-turn : tie.After-slot-of Inv-loop μ-loop → tie.At-loop Inv-loop μ-loop
@@ -25,13 +27,23 @@ at-turn c = c .before .before .before
 abbrev at-start : tie.At-loop Inv-loop μ-loop → tie.Start Inv-loop μ-loop
 at-start c = c .before .before
 
--- where a turn goes on, its number is among no earlier ones: its flag is not set, or it was looked for
-among-none : (c : tie.Joined2 Inv-loop μ-loop) → let t = at-turn (c .before) in let l = at-start t .args .numbers .now in
-    among (take (t .loop .k) l) (getD l (t .loop .k) 0) ≡ false
+-- the keys that a turn looks at, and its own
+abbrev keys-at : tie.At-loop Inv-loop μ-loop → List Words
+keys-at t = keys (at-start t .args .low .now) (at-start t .args .high .now)
+
+abbrev key-at : tie.At-loop Inv-loop μ-loop → Words
+key-at t = keyAt (at-start t .args .low .now) (at-start t .args .high .now) (t .loop .k)
+
+-- where a turn goes on, its key is among no earlier ones: its flag is not set, or it was looked for
+abbrev AmongNone : tie.At-loop Inv-loop μ-loop → Type 0
+AmongNone t = among (take (t .loop .k) (keys-at t)) (key-at t) ≡ false
+
+among-none : (c : tie.Joined2 Inv-loop μ-loop) → AmongNone (at-turn (c .before))
+unfolding slot
 among-none c =
     let t = at-turn (c .before) in
-    ⊎-elim (λ w. sym (w .1 .ensures) ∙ w .2 .left)
-    (λ w. unflagged (t .loop .inv .1) _ _ (c .before .slot-of .ensures .0) (w .left)) (c .if2 .came)
+    ⊎-elim {C = AmongNone t} (λ w. sym (w .2 .ensures) ∙ w .3 .left)
+    (λ w. unflagged (t .loop .inv .1) (key-at t) _ (c .before .slot-of .ensures .0) (w .left)) (c .if2 .came)
 
 returns : tie.Need-returns Inv-loop μ-loop
 returns c = sym (few-differ _ _ (c .if1 .taken))
@@ -51,13 +63,21 @@ slot-of-requires c κs = search needs
 array-read-if2 : tie.Need-array-read-if2 Inv-loop μ-loop
 array-read-if2 c = search needs
 
+mul-y : tie.Need-mul-y Inv-loop μ-loop
+mul-y c = search needs
+
+element-copy-out-y : tie.Need-element-copy-out-y Inv-loop μ-loop
+element-copy-out-y c = search needs
+
 among-requires : tie.Need-among-requires Inv-loop μ-loop
 among-requires c κs = search needs
 
 returns-2 : tie.Need-returns-2 Inv-loop μ-loop
 returns-2 c =
-    let t = at-turn (c .before .before .before) in
-    sym (equal-found (at-start t .args .numbers .now) (t .loop .k) (at-start t .args .count) (omega arith) (omega arith) (sym (c .before .among .ensures) ∙ c .if3 .taken))
+    let t = at-turn (c .before .before .before .before) in
+    let args = at-start t .args in
+    let found : among (take (t .loop .k) (keys-at t)) (key-at t) ≡ true = rw (← c .before .among .ensures) (c .if3 .taken) in
+    sym (equal-found (args .low .now) (args .high .now) (t .loop .k) (args .count) (omega arith) (omega arith) (omega arith) found)
 
 array-write-flags : tie.Need-array-write-flags Inv-loop μ-loop
 array-write-flags c = search needs
@@ -69,10 +89,12 @@ loop-less : tie.Need-loop-less Inv-loop μ-loop
 loop-less c = search needs
 
 loop-again : tie.Need-loop-again Inv-loop μ-loop
+unfolding slot
 loop-again c =
     let t = at-turn (c .before) in
+    let args = at-start t .args in
     let (slot-is, slot-small) = c .before .slot-of .ensures in
-    (omega arith, passed-next (at-start t .args .numbers .now) (t .loop .k) _ (t .loop .inv .1) (omega arith) slot-is slot-small (among-none c))
+    (omega arith, passed-next (args .low .now) (args .high .now) (t .loop .k) _ (t .loop .inv .1) (omega arith) (omega arith) slot-is slot-small (among-none c))
 
 returns-3 : tie.Need-returns-3 Inv-loop μ-loop
 returns-3 c =
@@ -91,6 +113,8 @@ any-equal-spec =
     element-copy-out-x
     slot-of-requires
     array-read-if2
+    mul-y
+    element-copy-out-y
     among-requires
     returns-2
     array-write-flags
