@@ -34,9 +34,9 @@ _upTo_ x high = x from 0 to high
 -- VE: kind, count up to 1,000, average km or hours up to 1,000,000, grams of fuel per km or hour up to 100,000; their product up to 10^12
 -- NI: source (1 synthetic, 2 organic, 3 residue), crop (1 other, 2 flooded rice), grams up to 10^10, nitrogen content in ten-thousandths up to 10,000
 -- LI: material (1 limestone, 2 dolomite, 3 urea), grams up to 10^12
--- CR (#106): crop as in NI; area in ha and yield (harvest) in kg of dry matter per ha, 32 bits each and no other limit by themselves, "Area × yield is at most 10^8"; renewed share in
--- ten-thousandths; above-ground and below-ground ratio in hundredths, up to 500; their nitrogen contents in ten-thousandths; "shares and contents are
--- at most 10,000"
+-- CR (#106): crop as in NI; area in ha and yield (harvest) in kg of dry matter per ha, 32 bits each and no other limit by themselves, "Area × yield is at
+-- most 10^8"; renewed share in ten-thousandths; above-ground and below-ground ratio in hundredths, up to 500; their nitrogen contents in
+-- ten-thousandths; "shares and contents are at most 10,000"
 abbrev pub ranges : Activity → List Range
 ranges (Fuel kind grams) = kind from 1 to 3 ∷ grams upTo 1_000_000_000_000 ∷ []
 ranges (Vehicles kind count average rate) =

@@ -35,7 +35,7 @@ opening = do
 abbrev pub thirdResidue : List Activity → (m : ℕ) → Bool
 thirdResidue before m = cond (is CR m) (ltb 1 (residues before)) false
 
--- one more activity record after these; its mark alone decides 9, before bytes missing
+-- one more activity record after these: a third CR is 9 by its mark alone, before bytes missing
 unfoldable pub another : List Activity → Reader Activity
 another before = upon (thirdResidue before) (refuse tooManyActivities) activity
 
