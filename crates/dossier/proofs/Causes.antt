@@ -29,14 +29,6 @@ module _ (allowed : List ℕ) (missing : bytesMissing ∈ allowed) (due : markNo
   said : {A : Type 0} (m n : ℕ) → _≡_ {A = Judged A} (refused m) (refused n) → m ∈ allowed → n ∈ allowed
   said m n e c = let z : m ≡ n = cc in rw z at c
 
-  bind : {A B : Type 0} {r : Reader A} {k : A → Reader B} → Numbered allowed r → ((a : A) → Numbered allowed (k a)) → Numbered allowed (r >>= k)
-  unfolding _>>=_
-  bind {A} {B} {r} {k} x y s n e = go (r s) refl e
-    where
-      go : (j : Judged A) → r s ≡ j → after j k ≡ refused n → n ∈ allowed
-      go (refused m) h e = said m n e (x s m h)
-      go (accepted a t) h e = y a t n e
-
   -- with what is told of each value that r accepts
   told : {A B : Type 0} {r : Reader A} {k : A → Reader B} → Numbered allowed r → ((a : A) (s t : List ℕ) → r s ≡ accepted a t → Numbered allowed (k a))
       → Numbered allowed (r >>= k)
@@ -46,6 +38,9 @@ module _ (allowed : List ℕ) (missing : bytesMissing ∈ allowed) (due : markNo
       go : (j : Judged A) → r s ≡ j → after j k ≡ refused n → n ∈ allowed
       go (refused m) h e = said m n e (x s m h)
       go (accepted a t) h e = f a s t h t n e
+
+  bind : {A B : Type 0} {r : Reader A} {k : A → Reader B} → Numbered allowed r → ((a : A) → Numbered allowed (k a)) → Numbered allowed (r >>= k)
+  bind x y = told x (λ a s t e. y a)
 
   seq : {A B : Type 0} {r : Reader A} {q : Reader B} → Numbered allowed r → Numbered allowed q → Numbered allowed (r >> q)
   unfolding _>>_ _>>=_
