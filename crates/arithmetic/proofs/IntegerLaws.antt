@@ -1,12 +1,13 @@
 -- An integer as a difference of naturals, above − below, one of which is 0: so that `omega`, which reads naturals, serves integers too.
 -- Assumes nothing.
-use mathlib.Core.Path.{_≡_, refl}
+use mathlib.Core.Path.{_≡_, refl, ap}
 use mathlib.Core.Bool.{Bool, true, false, not, cond}
 use Prim.Native.Nat.{ℕ, zero, suc, _+_, _*_, _-_, _≤_, _<_}
 use native.Mathlib.Omega.{arith}
 use lib.Dec.{T, ltb, leb→le, le→leb, ltb→lt, lt→ltb, nltb→le}
 use lib.IntN.{ℤ, pos, negsuc, subℕ, _+ℤ_, _-ℤ_, _*ℤ_, negℤ}
 use lib.Signed.{_≤ℤ_, _<ℤ_, mag}
+use Rattle.arithmetic.specs.Rounding.{positivePart}
 
 abbrev pub above : ℤ → ℕ
 above (pos n) = n
@@ -85,6 +86,15 @@ same-parts (pos a) (pos b) e = let k : a ≡ b = omega arith in rw k
 same-parts (pos a) (negsuc b) e = let z : ⊥ = omega arith in absurd z
 same-parts (negsuc a) (pos b) e = let z : ⊥ = omega arith in absurd z
 same-parts (negsuc a) (negsuc b) e = let k : a ≡ b = omega arith in rw k
+
+-- what is left of a after b, nothing where b is more
+pub positive-difference : (a b : ℕ) → positivePart (pos a -ℤ pos b) ≡ pos (a - b)
+positive-difference a zero = ap pos (omega arith)
+positive-difference a (suc b) = go (ltb a (suc b)) (ltb→lt a (suc b))
+  where
+    go : (t : Bool) → (T t → a < suc b) → positivePart (cond t (negsuc (suc b - suc a)) (pos (a - suc b))) ≡ pos (a - suc b)
+    go true f = let h : a < suc b = f tt in ap pos (omega arith)
+    go false f = refl
 
 -- ---- sizes: `mag` is n both of n and of -(n + 1)
 sub-mag : (a b : ℕ) → mag (subℕ a (suc b)) ≤ a + b

@@ -1,4 +1,5 @@
 pub mod SumLaws
+pub mod IntegerSums
 pub mod TableLaws
 pub mod RoundingLaws
 pub mod IntegerLaws

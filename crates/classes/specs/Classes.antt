@@ -42,10 +42,10 @@ deforestationProbabilities = 24_900 ∷ 30_900 ∷ 0 ∷ 34_500 ∷ 14_100 ∷ 1
 unfoldable pub emissionFactor : (stocks : List ℕ) (i j : ℕ) → ℕ
 emissionFactor stocks i j = cond (eqb j TP || eqb j PP) 0 (getD stocks i 0 - getD stocks j 0)
 
--- the greatest stock of a list, 0 of the empty one (#102: "With S the greatest stock used")
+-- the greatest of a list, 0 of the empty one (#102: "With S the greatest stock used")
 unfoldable pub greatestIn : List ℕ → ℕ
 greatestIn [] = 0
-greatestIn (stock ∷ rest) = max stock (greatestIn rest)
+greatestIn (x ∷ rest) = max x (greatestIn rest)
 
 -- the greatest starting area, in area units: document 01, "Each total is at most 10^12"
 abbrev pub greatestArea : ℕ

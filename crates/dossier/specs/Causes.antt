@@ -62,11 +62,15 @@ plannedYearWrong = 13
 abbrev pub recordRepeated : ℕ
 recordRepeated = 14
 
+-- "15 for a bad list, judged after the dossier" (#107)
+abbrev pub endsWrong : ℕ
+endsWrong = 15
+
 -- the whole table
 abbrev pub causes : List ℕ
 causes =
     bytesMissing ∷ markNotDue ∷ headOutOfRange ∷ areaTotalWrong ∷ rowSumWrong ∷ yearWrong ∷ conversionTotalWrong ∷ activityOutOfRange ∷ tooManyActivities
-    ∷ bufferTooShort ∷ stockOutOfRange ∷ planNotOfForm ∷ plannedYearWrong ∷ recordRepeated ∷ []
+    ∷ bufferTooShort ∷ stockOutOfRange ∷ planNotOfForm ∷ plannedYearWrong ∷ recordRepeated ∷ endsWrong ∷ []
 
 -- ---- the causes for which each call may refuse
 -- HD, ST, PA, DA and MP
@@ -78,7 +82,7 @@ abbrev pub yearCauses : List ℕ
 yearCauses =
     bytesMissing ∷ markNotDue ∷ yearWrong ∷ conversionTotalWrong ∷ activityOutOfRange ∷ tooManyActivities ∷ plannedYearWrong ∷ recordRepeated ∷ []
 
--- a closing: the buffer's alone
+-- a ledger's closing: the buffer's alone
 abbrev pub closingCauses : List ℕ
 closingCauses = bufferTooShort ∷ []
 

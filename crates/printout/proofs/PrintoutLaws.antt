@@ -24,9 +24,9 @@ use Rattle.printout.specs.Printout.{printed, printout}
 use Rattle.printout.specs.LedgerSheet.{ledgerSheet}
 
 -- by what the dossier is judged to be
-judged-as : (s : List ℕ) (j : Judged Dossier) → dossier none s ≡ j → (dossierCall s [] ≡ dossierJudged j) × (printout s ≡ printed j (reckonBuffer s [] (replicate 1312 0)))
+judged-as : (s : List ℕ) (j : Judged Dossier) → dossier none s ≡ j → (dossierCall s [] ≡ dossierJudged j) × (printout s ≡ printed j (reckonBuffer s [] [] (replicate 1312 0)))
 unfolding dossierCall printout
-judged-as s j e = (ap dossierJudged (no-plan dossier s ∙ e), ap (λ (i : Judged Dossier). printed i (reckonBuffer s [] (replicate 1312 0))) e)
+judged-as s j e = (ap dossierJudged (no-plan dossier s ∙ e), ap (λ (i : Judged Dossier). printed i (reckonBuffer s [] [] (replicate 1312 0))) e)
 
 -- the sheet of a ledger from its first year, its years and its report
 pub sheet-written : (l : Ledger) (first n : ℕ) (result old new : List ℕ) (r : ℕ) → first ≡ firstYear l → n ≡ l .given → result ≡ closedBuffer l (replicate 1312 0)
@@ -52,7 +52,7 @@ module _ (s : List ℕ) (r : Step) (e : r ≡ dossierCall s []) where
 
   -- the sheet of its ledger is that of the dossier
   sheet-is : (d : Dossier) → DossierInRange none d → dossierCall s [] ≡ record { ledger = ledgerOf d; answer = Answer.Accepted }
-      → ledgerSheet (ledgerOf d) ≡ sheetOf (d .opening .head .firstYear) (d .opening .head .years) (reckonBuffer s [] (replicate 1312 0))
+      → ledgerSheet (ledgerOf d) ≡ sheetOf (d .opening .head .firstYear) (d .opening .head .years) (reckonBuffer s [] [] (replicate 1312 0))
   unfolding ledgerSheet reckonBuffer
   sheet-is d h k = rw (k, first-is none d h, given-all none d h)
 

@@ -15,6 +15,6 @@ abbrev pub printed : Judged Dossier → List ℕ → List ℕ
 printed (refused n) result = refusalOf n
 printed (accepted d rest) result = sheetOf (d .opening .head .firstYear) (d .opening .head .years) result
 
--- it lends no plan (#103); the result is written into a buffer for 20 years
+-- it lends no plan (#103) and no list of period ends (#107); the result is written into a buffer for 20 years
 unfoldable pub printout : List ℕ → List ℕ
-printout s = printed (dossier none s) (reckonBuffer s [] (replicate 1312 0))
+printout s = printed (dossier none s) (reckonBuffer s [] [] (replicate 1312 0))

@@ -7,7 +7,6 @@ use mathlib.Core.Logic.{_↔_, inl, inr}
 use mathlib.Core.Option.{Option}
 use mathlib.Core.List.{List, [], _∷_}
 use native.Mathlib.Omega.{arith}
-use borrow.Author.Tests.{lt-ltb}
 use lib.ListN.{length, take}
 use Rattle.wire.specs.Bytes.{Bytes}
 use Rattle.figures.specs.Year.{Year}
@@ -15,7 +14,7 @@ use Rattle.figures.specs.Reckoning.{afterFigures, afterYear}
 use Rattle.dossier.specs.Plan.{Plan}
 use Rattle.dossier.specs.Records.{stateOf, Dossier, DossierInRange, dossierBytes, Opening, WellFormedPlan}
 use Rattle.dossier.specs.Claims.{numberOf}
-use Rattle.dossier.specs.Causes.{bufferTooShort, planNotOfForm, causes, openingCauses, yearCauses, closingCauses, _∈_, ZeroOr}
+use Rattle.dossier.specs.Causes.{bufferTooShort, endsWrong, planNotOfForm, causes, openingCauses, yearCauses, closingCauses, _∈_, ZeroOr}
 use Rattle.dossier.specs.Reader.{Judged, refused, accepted}
 use Rattle.dossier.specs.Judging.{dossier, openingPiece, yearPiece}
 use Rattle.dossier.specs.JudgingPlan.{lentPlan, under}
@@ -24,11 +23,13 @@ use Rattle.dossier.proofs.Causes.{openingPiece-causes}
 use Rattle.dossier.proofs.WellFormed.{dossier-accepted, plan-accepted}
 use Rattle.dossier.proofs.UnderLaws.{under-accepted, yearPiece-under-causes, dossier-under-causes, under-first-bytes}
 use Rattle.dossier.proofs.Numbers.{under-zero}
+use Rattle.periods.specs.Periods.{EndsInRange, endsFit}
+use Rattle.periods.proofs.EndsLaws.{ends-judged}
 use Rattle.reckoner.specs.declared.Ledger.{Ledger}
 use Rattle.reckoner.specs.declared.Answer.{Answer}
-use Rattle.reckoner.specs.Ledger.{newLedger, openedLedger, givenYear, givenYears, ledgerOf, firstYear, dueOf, report}
-use Rattle.reckoner.specs.Calls.{answerNumber, closeCall, dossierCall, reckonNumber, openJudged, openCall, yearJudged, yearCall, tooShort, said, closeSays, reckonSays}
-use Rattle.reckoner.proofs.CloseLaws.{close-zero}
+use Rattle.reckoner.specs.Ledger.{newLedger, openedLedger, givenYear, givenYears, ledgerOf, firstYear, dueOf}
+use Rattle.reckoner.specs.Calls.{answerNumber, dossierCall, reckonNumber, openJudged, openCall, yearJudged, yearCall, tooShort, said, periodsAnswer, periodsReport, periodsSays, closeSays, reckonSays}
+use Rattle.reckoner.proofs.CloseLaws.{sound, periods-zero}
 
 -- every year given is counted
 pub given-count : (ys : List Year) (l : Ledger) → givenYears ys l .given ≡ l .given + length ys
@@ -51,43 +52,50 @@ first-is plan d h =
     let y = given-year (d .years) (openedLedger (d .opening)) in
     unfold ledgerOf openedLedger newLedger stateOf in omega (arith, c, y)
 
--- "10 comes last": the plan's and the dossier's own number counts before the buffer's
-pub number-refused : (s planned : List ℕ) (size n : ℕ) → under planned dossier s ≡ refused n → reckonNumber s planned size ≡ n
+-- "10 comes last": the plan's and the dossier's own number counts before the list's and the buffer's
+pub number-refused : (s planned ends : List ℕ) (size n : ℕ) → under planned dossier s ≡ refused n → reckonNumber s planned ends size ≡ n
 unfolding reckonSays dossierCall
-number-refused s planned size n e = rw (reckonNumber, e)
+number-refused s planned ends size n e = rw (reckonNumber, e)
 
-module _ (s planned : List ℕ) (size : ℕ) (d : Dossier) (rest : List ℕ) (e : under planned dossier s ≡ accepted d rest) where
-  pub number-accepted : reckonNumber s planned size ≡ closeSays (ledgerOf d) size .number
-  unfolding reckonSays dossierCall
-  number-accepted = rw (reckonNumber, e)
+pub number-accepted : (s planned ends : List ℕ) (size : ℕ) (d : Dossier) (rest : List ℕ) → under planned dossier s ≡ accepted d rest
+    → reckonNumber s planned ends size ≡ periodsSays (ledgerOf d) ends size .number
+unfolding reckonSays dossierCall
+number-accepted s planned ends size d rest e = rw (reckonNumber, e)
 
-  pub number-short : size < 64 * ledgerOf d .given + 32 → reckonNumber s planned size ≡ bufferTooShort
-  number-short h = number-accepted ∙ unfold closeCall in simp (lt-ltb _ _ h)
+-- the list is judged against the dossier's years
+pub sound-years : (plan : Option Plan) (d : Dossier) → DossierInRange plan d → (ends : List ℕ)
+    → sound (ledgerOf d) ends ≡ endsFit (d .opening .head .firstYear) (d .opening .head .years) ends
+sound-years plan d h ends = rw (first-is plan d h, given-all plan d h)
 
-  pub number-enough : 64 * ledgerOf d .given + 32 ≤ size → reckonNumber s planned size ≡ 0
-  number-enough h = number-accepted ∙ close-zero (ledgerOf d) size .1 h
+-- 0 just where the plan is well formed, the dossier is under it, the list is in range for its years, and the buffer holds 64 × n + 32 bytes and 8 for
+-- each end
+abbrev pub Reckoned : (s planned ends : List ℕ) (size : ℕ) → Type 0
+Reckoned s planned ends size = (p : Option Plan) × WellFormedPlan p planned
+    × ((d : Dossier) × DossierInRange p d × (s ≡ dossierBytes d) × EndsInRange (d .opening .head .firstYear) (d .opening .head .years) ends
+    × (64 * d .opening .head .years + 32 + 8 * length ends ≤ size))
 
--- 0 just where the plan is well formed, the dossier is under it, and the buffer holds 64 × n + 32 bytes
-abbrev pub Reckoned : (s planned : List ℕ) (size : ℕ) → Type 0
-Reckoned s planned size = (p : Option Plan) × WellFormedPlan p planned × ((d : Dossier) × DossierInRange p d × (s ≡ dossierBytes d) × (64 * d .opening .head .years + 32 ≤ size))
+pub judged-as : (s planned : List ℕ) (p : Option Plan) → WellFormedPlan p planned → (d : Dossier) → DossierInRange p d → s ≡ dossierBytes d → under planned dossier s ≡ accepted d []
+judged-as s planned p w d h es =
+    let plan-is : lentPlan planned ≡ accepted p [] = ap lentPlan (w .1) ∙ plan-accepted .complete p (w .0) in
+    under-accepted dossier s planned p [] plan-is ∙ ap (dossier p) es ∙ dossier-accepted p (w .0) .complete d h
 
-pub number-zero : (s planned : List ℕ) → Bytes s → Bytes planned → (size : ℕ) → Reckoned s planned size ↔ (reckonNumber s planned size ≡ 0)
-number-zero s planned b bp size = (there, back (under planned dossier s) refl)
+pub number-zero : (s planned ends : List ℕ) → Bytes s → Bytes planned → (size : ℕ) → Reckoned s planned ends size ↔ (reckonNumber s planned ends size ≡ 0)
+number-zero s planned ends b bp size = (there, back (under planned dossier s) refl)
   where
-    judged-as : (p : Option Plan) → WellFormedPlan p planned → (d : Dossier) → DossierInRange p d → s ≡ dossierBytes d → under planned dossier s ≡ accepted d []
-    judged-as p w d h es =
-        let plan-is : lentPlan planned ≡ accepted p [] = ap lentPlan (w .1) ∙ plan-accepted .complete p (w .0) in
-        under-accepted dossier s planned p [] plan-is ∙ ap (dossier p) es ∙ dossier-accepted p (w .0) .complete d h
+    there : Reckoned s planned ends size → reckonNumber s planned ends size ≡ 0
+    there (p, w, (d, h, es, fit, enough)) =
+        let x = sound-years p d h ends ∙ ends-judged _ _ (h .opening .head .count .most) ends .1 fit in
+        number-accepted s planned ends size d [] (judged-as s planned p w d h es) ∙ periods-zero (ledgerOf d) ends size .1 (x, omega (arith, given-all p d h, enough))
 
-    there : Reckoned s planned size → reckonNumber s planned size ≡ 0
-    there (p, w, (d, h, es, enough)) = number-enough s planned size d [] (judged-as p w d h es) (omega (arith, given-all p d h, enough))
-
-    back : (j : Judged Dossier) → under planned dossier s ≡ j → reckonNumber s planned size ≡ 0 → Reckoned s planned size
-    back (refused n) e z = let c = positive (planNotOfForm ∷ dossierCauses) tt n (dossier-under-causes planned s n e) in let y = number-refused s planned size n e in absurd (omega arith)
+    back : (j : Judged Dossier) → under planned dossier s ≡ j → reckonNumber s planned ends size ≡ 0 → Reckoned s planned ends size
+    back (refused n) e z =
+        let c = positive (planNotOfForm ∷ dossierCauses) tt n (dossier-under-causes planned s n e) in
+        let y = number-refused s planned ends size n e in
+        absurd (omega arith)
     back (accepted d t) e z =
         let (p, w, (f, h, es)) = under-zero dossier-accepted (planNotOfForm ∷ dossierCauses) tt dossier-under-causes s planned b bp .1 (ap numberOf e) in
-        let enough = close-zero (ledgerOf f) size .0 (sym (number-accepted s planned size f [] (judged-as p w f h es)) ∙ z) in
-        (p, w, (f, h, es, omega (arith, given-all p f h, enough)))
+        let (fit, enough) = periods-zero (ledgerOf f) ends size .0 (sym (number-accepted s planned ends size f [] (judged-as s planned p w f h es)) ∙ z) in
+        (p, w, (f, h, es, ends-judged _ _ (h .opening .head .count .most) ends .0 (sym (sound-years p f h ends) ∙ fit), omega (arith, given-all p f h, enough)))
 
 -- ---- the numbers of each call: 0, or one of its own causes
 pub open-numbers : (piece : List ℕ) → ZeroOr openingCauses (answerNumber (openCall piece .answer))
@@ -106,26 +114,39 @@ year-numbers l piece plan = go (under plan (λ p. yearPiece (dueOf p l)) piece) 
     go (refused n) e = inr (yearPiece-under-causes (λ p. dueOf p l) plan piece n e)
     go (accepted y rest) e = inl refl
 
--- of a closing, where its cause is allowed
-closed-number : (allowed : List ℕ) → bufferTooShort ∈ allowed → (l : Ledger) (size : ℕ) → ZeroOr allowed (closeSays l size .number)
-unfolding closeCall
-closed-number allowed h l size = go (tooShort (l .given) size)
+pub close-numbers : (l : Ledger) (size : ℕ) → ZeroOr closingCauses (closeSays l size .number)
+unfolding periodsAnswer endsFit
+close-numbers l size = go (tooShort (l .given) 0 size)
   where
-    go : (b : Bool) → ZeroOr allowed (said (cond b (Answer.Refused bufferTooShort) Answer.Accepted) (report l) .number)
-    go true = inr h
+    go : (b : Bool) → ZeroOr closingCauses (said (cond b (Answer.Refused bufferTooShort) Answer.Accepted) (periodsReport l []) .number)
+    go true = inr (listed bufferTooShort closingCauses tt)
     go false = inl refl
 
-pub close-numbers : (l : Ledger) (size : ℕ) → ZeroOr closingCauses (closeSays l size .number)
-close-numbers = closed-number closingCauses (listed bufferTooShort closingCauses tt)
-
-pub reckon-numbers : (s planned : List ℕ) (size : ℕ) → ZeroOr causes (reckonNumber s planned size)
-reckon-numbers s planned size = go (under planned dossier s) refl
+-- with a list the list's too
+pub periods-numbers : (l : Ledger) (ends : List ℕ) (size : ℕ) → ZeroOr (endsWrong ∷ closingCauses) (periodsSays l ends size .number)
+unfolding periodsAnswer
+periods-numbers l ends size = go (sound l ends) (tooShort (l .given) (length ends) size)
   where
-    go : (j : Judged Dossier) → under planned dossier s ≡ j → ZeroOr causes (reckonNumber s planned size)
-    go (refused n) e = rw (number-refused s planned size n e) (inr (dossier-part n (dossier-under-causes planned s n e)))
-    go (accepted d t) e = rw (number-accepted s planned size d t e) (closed-number causes (listed bufferTooShort causes tt) (ledgerOf d) size)
+    go : (b c : Bool) → ZeroOr (endsWrong ∷ closingCauses)
+        (said (cond b (cond c (Answer.Refused bufferTooShort) Answer.Accepted) (Answer.Refused endsWrong)) (periodsReport l ends) .number)
+    go true true = inr (listed bufferTooShort (endsWrong ∷ closingCauses) tt)
+    go true false = inl refl
+    go false c = inr (listed endsWrong (endsWrong ∷ closingCauses) tt)
 
--- the first 65,536 bytes settle it, for any plan and any buffer
-pub same-number : (s planned : List ℕ) → Bytes s → Bytes planned → (size : ℕ) → reckonNumber (take 65536 s) planned size ≡ reckonNumber s planned size
+pub reckon-numbers : (s planned ends : List ℕ) (size : ℕ) → ZeroOr causes (reckonNumber s planned ends size)
+reckon-numbers s planned ends size = go (under planned dossier s) refl
+  where
+    last : (n : ℕ) → ZeroOr (endsWrong ∷ closingCauses) n → ZeroOr causes n
+    last n (inl e) = inl e
+    last n (inr (inl e)) = inr (rw e (listed endsWrong causes tt))
+    last n (inr (inr (inl e))) = inr (rw e (listed bufferTooShort causes tt))
+    last n (inr (inr (inr e))) = absurd e
+
+    go : (j : Judged Dossier) → under planned dossier s ≡ j → ZeroOr causes (reckonNumber s planned ends size)
+    go (refused n) e = rw (number-refused s planned ends size n e) (inr (dossier-part n (dossier-under-causes planned s n e)))
+    go (accepted d t) e = rw (number-accepted s planned ends size d t e) (last _ (periods-numbers (ledgerOf d) ends size))
+
+-- the first 65,536 bytes settle it, for any plan, any list and any buffer
+pub same-number : (s planned ends : List ℕ) → Bytes s → Bytes planned → (size : ℕ) → reckonNumber (take 65536 s) planned ends size ≡ reckonNumber s planned ends size
 unfolding reckonSays dossierCall
-same-number s planned bs bp size = rw (reckonNumber, under-first-bytes planned s bp bs)
+same-number s planned ends bs bp size = rw (reckonNumber, under-first-bytes planned s bp bs)

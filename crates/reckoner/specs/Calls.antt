@@ -2,22 +2,23 @@
 -- To be believed. Assumes nothing.
 use Prim.Native.Nat.{ℕ, _+_, _*_}
 use mathlib.Core.Bool.{Bool, cond}
-use mathlib.Core.List.{List, []}
+use mathlib.Core.List.{List, [], _++_}
 use lib.Dec.{ltb}
 use lib.IntN.{ℤ}
 use lib.ListN.{length}
 use Rattle.wire.specs.Bytes.{Bytes}
 use Rattle.wire.specs.Signed.{written}
 use Rattle.figures.specs.Year.{Year}
-use Rattle.dossier.specs.Causes.{bufferTooShort}
+use Rattle.dossier.specs.Causes.{bufferTooShort, endsWrong}
 use Rattle.dossier.specs.Records.{Opening, Dossier}
 use Rattle.dossier.specs.Reader.{Judged, refused, accepted}
 use Rattle.dossier.specs.Judging.{dossier, openingPiece, yearPiece}
 use Rattle.dossier.specs.JudgingPlan.{under}
+use Rattle.periods.specs.Periods.{endsFit, creditedIn, issuedTonnes}
 use Rattle.reckoner.specs.declared.Ledger.{Ledger}
 use Rattle.reckoner.specs.declared.Answer.{Answer}
 use Rattle.reckoner.specs.declared.Step.{Step}
-use Rattle.reckoner.specs.Ledger.{emptyLedger, openedLedger, dueOf, givenYear, ledgerOf, report}
+use Rattle.reckoner.specs.Ledger.{emptyLedger, openedLedger, dueOf, givenYear, ledgerOf, firstYear, report}
 
 -- what comes of an answer: of a refusal by its number, or of an acceptance
 abbrev pub answered : {A : Type 0} → Answer → (refusal : ℕ → A) → (acceptance : A) → A
@@ -58,21 +59,39 @@ yearJudged l (accepted y rest) = record { ledger = givenYear y l; answer = Answe
 unfoldable pub yearCall : Ledger → (piece plan : List ℕ) → Step
 yearCall l piece plan = yearJudged l (under plan (λ p. yearPiece (dueOf p l)) piece)
 
--- "buffer under 64 × n + 32 bytes"
-abbrev pub tooShort : (n size : ℕ) → Bool
-tooShort n size = ltb size (64 * n + 32)
+-- ---- closing, with a list of period ends (#107)
+-- "buffer under 64 × n + 32 bytes"; "64 bits per listed end, and 10 counts them"
+abbrev pub tooShort : (n ends size : ℕ) → Bool
+tooShort n ends size = ltb size (64 * n + 32 + 8 * ends)
 
--- "Closing after k years (k may be 0) takes k for n in the buffer's layout and length"; it hands back the ledger it got
+-- "15 for a bad list, judged after the dossier"; "10 comes last"
+unfoldable pub periodsAnswer : Ledger → (ends : List ℕ) (size : ℕ) → Answer
+periodsAnswer l ends size =
+    cond (endsFit (firstYear l) (l .given) ends)
+    (cond (tooShort (l .given) (length ends) size) (Answer.Refused bufferTooShort) Answer.Accepted)
+    (Answer.Refused endsWrong)
+
+-- the numbers of the report, and the issued tonnes: "They follow the balances in the buffer"
+abbrev pub periodsReport : Ledger → (ends : List ℕ) → List ℤ
+periodsReport l ends = report l ++ issuedTonnes (firstYear l) (creditedIn (l .figures)) ends
+
+abbrev pub periodsSays : Ledger → (ends : List ℕ) (size : ℕ) → Said
+periodsSays l ends size = said (periodsAnswer l ends size) (periodsReport l ends)
+
+-- the buffer afterwards: the numbers and the old bytes beyond them, or as it was
+unfoldable pub periodsBuffer : Ledger → (ends buffer : List ℕ) → List ℕ
+periodsBuffer l ends buffer = answered (periodsAnswer l ends (length buffer)) (λ n. buffer) (written (periodsReport l ends) buffer)
+
+-- "Closing after k years (k may be 0) takes k for n in the buffer's layout and length"; it hands back the ledger it got. It has no list
 unfoldable pub closeCall : Ledger → (size : ℕ) → Step
-closeCall l size = record { ledger = l; answer = cond (tooShort (l .given) size) (Answer.Refused bufferTooShort) Answer.Accepted }
+closeCall l size = record { ledger = l; answer = periodsAnswer l [] size }
 
 -- a closing brings the numbers of its report
 abbrev pub closeSays : Ledger → (size : ℕ) → Said
-closeSays l size = said (closeCall l size .answer) (report l)
+closeSays l size = periodsSays l [] size
 
--- the buffer afterwards: the report and the old bytes beyond it, or as it was
-unfoldable pub closedBuffer : Ledger → List ℕ → List ℕ
-closedBuffer l buffer = cond (tooShort (l .given) (length buffer)) buffer (written (report l) buffer)
+abbrev pub closedBuffer : Ledger → (buffer : List ℕ) → List ℕ
+closedBuffer l buffer = periodsBuffer l [] buffer
 
 -- a whole dossier opened and given its years under the plan that is lent: the ledger after its last year
 abbrev pub dossierJudged : Judged Dossier → Step
@@ -88,12 +107,12 @@ pub data HandedBack : Ledger → Type 0 where
   given : {l : Ledger} → HandedBack l → (piece plan : List ℕ) → Bytes piece → Bytes plan → HandedBack (yearCall l piece plan .ledger)
   whole : (s plan : List ℕ) → Bytes s → Bytes plan → HandedBack (dossierCall s plan .ledger)
 
--- ---- the whole reckoning: the dossier's ledger closed. "10 comes last": only where plan and dossier are accepted
-unfoldable pub reckonSays : (s plan : List ℕ) (size : ℕ) → Said
-reckonSays s plan size = answered (dossierCall s plan .answer) (λ n. said (Answer.Refused n) []) (closeSays (dossierCall s plan .ledger) size)
+-- ---- the whole reckoning: the dossier's ledger closed, with a list or none. "10 comes last": only where plan, dossier and list are accepted
+unfoldable pub reckonSays : (s plan ends : List ℕ) (size : ℕ) → Said
+reckonSays s plan ends size = answered (dossierCall s plan .answer) (λ n. said (Answer.Refused n) []) (periodsSays (dossierCall s plan .ledger) ends size)
 
-abbrev pub reckonNumber : (s plan : List ℕ) (size : ℕ) → ℕ
-reckonNumber s plan size = reckonSays s plan size .number
+abbrev pub reckonNumber : (s plan ends : List ℕ) (size : ℕ) → ℕ
+reckonNumber s plan ends size = reckonSays s plan ends size .number
 
-unfoldable pub reckonBuffer : (s plan buffer : List ℕ) → List ℕ
-reckonBuffer s plan buffer = answered (dossierCall s plan .answer) (λ n. buffer) (closedBuffer (dossierCall s plan .ledger) buffer)
+unfoldable pub reckonBuffer : (s plan ends buffer : List ℕ) → List ℕ
+reckonBuffer s plan ends buffer = answered (dossierCall s plan .answer) (λ n. buffer) (periodsBuffer (dossierCall s plan .ledger) ends buffer)

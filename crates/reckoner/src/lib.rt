@@ -15,7 +15,7 @@ ghost use Rattle.plans.specs.Answers.{PlanSaid};
 ghost use Rattle.reckoning.specs.Step.{stepInside};
 ghost use Rattle.reckoner.specs.Ledger.{newLedger, firstYear};
 ghost use Rattle.reckoner.specs.Parts.{lentAs, giveYears, reckonedSays};
-ghost use Rattle.reckoner.specs.Calls.{refusedOpening, openCall, yearCall, closeCall, closeSays, closedBuffer, dossierCall, HandedBack, reckonNumber, reckonBuffer};
+ghost use Rattle.reckoner.specs.Calls.{refusedOpening, openCall, yearCall, periodsSays, periodsBuffer, closeCall, closedBuffer, dossierCall, HandedBack, reckonNumber, reckonBuffer};
 
 // A ledger: the years given, what its opening settled, the state that years change, and the figures of the years given.
 pub struct Ledger {
@@ -62,14 +62,19 @@ fn refused_opening(n: u8) -> Step
     }
 }
 
-// The report of a ledger, written where the buffer is long enough: 0, or 10 where it is not.
-fn write_ledger(ledger: Ledger, result: &mut [u8]) -> u8
+// The report of a ledger and the tonnes issued at each end of a list, written where the list is sound and the buffer long enough: 0, or 15 or 10.
+fn write_ledger(ledger: Ledger, ends: &[u16], result: &mut [u8]) -> u8
     requires { ⌜ HandedBack ledger ⌝ }
-    ensures { λ r. ⌜ r ≡ closeSays ledger (length (now (result .entry))) .number ⌝ }
-    ensures { λ r. ⌜ now (result .exit) ≡ closedBuffer ledger (now (result .entry)) ⌝ }
+    ensures { λ r. ⌜ r ≡ periodsSays ledger (now (ends .entry)) (length (now (result .entry))) .number ⌝ }
+    ensures { λ r. ⌜ now (result .exit) ≡ periodsBuffer ledger (now (ends .entry)) (now (result .entry)) ⌝ }
 {
     let k = ledger.given;
-    if result.len() < 64 * (k as usize) + 32 {
+    let first = ledger.first_year();
+    if !periods::fit(ends, first, k) {
+        return 15;
+    }
+    let end = 64 * (k as usize) + 32;
+    if result.len() < end + 8 * ends.len() {
         return 10;
     }
     let figures = ledger.figures;
@@ -77,6 +82,7 @@ fn write_ledger(ledger: Ledger, result: &mut [u8]) -> u8
     let balance = state.project.balance;
     let belt = state.belt.balance;
     report::write_report(figures, k, state.total, balance, belt, result);
+    periods::write_issued(figures, k, first, ends, result, end);
     0
 }
 
@@ -253,7 +259,8 @@ impl Ledger {
         ensures { λ r. ⌜ now (result .exit) ≡ closedBuffer self (now (result .entry)) ⌝ }
         ensures { λ r. ⌜ HandedBack (r .ledger) ⌝ }
     {
-        let n = write_ledger(self, result);
+        let none = [0u16; 1];
+        let n = write_ledger(self, &none[..0], result);
         if n != 0 {
             return Step {
                 ledger: self,
@@ -295,38 +302,53 @@ impl Ledger {
     }
 }
 
-// The whole reckoning of a dossier, under a plan or none: its number, 0 where it is accepted, and then the report in the buffer.
-pub fn reckon<'a>(dossier: &'a [u8], plan: &'a [u8], result: &mut [u8]) -> u8
-    ensures { λ r. ⌜ r ≡ reckonNumber (now (dossier .entry)) (now (plan .entry)) (length (now (result .entry))) ⌝ }
-    ensures { λ r. ⌜ now (result .exit) ≡ reckonBuffer (now (dossier .entry)) (now (plan .entry)) (now (result .entry)) ⌝ }
+// The whole reckoning of a dossier, under a plan or none, with a list of period ends or none: its number, 0 where it is accepted, and then the report in the buffer.
+pub fn reckon<'a>(dossier: &'a [u8], plan: &'a [u8], ends: &[u16], result: &mut [u8]) -> u8
+    ensures { λ r. ⌜ r ≡ reckonNumber (now (dossier .entry)) (now (plan .entry)) (now (ends .entry)) (length (now (result .entry))) ⌝ }
+    ensures { λ r. ⌜ now (result .exit) ≡ reckonBuffer (now (dossier .entry)) (now (plan .entry)) (now (ends .entry)) (now (result .entry)) ⌝ }
 {
     let made = Ledger::of_dossier(dossier, plan);
     let answer = made.answer;
     let ledger = made.ledger;
     match answer {
         Answer::Refused(n) => n,
-        Answer::Accepted => write_ledger(ledger, result),
+        Answer::Accepted => write_ledger(ledger, ends, result),
     }
 }
 
-// The whole reckoning for a host in C, under a plan or none.
+// The whole reckoning for a host in C, under a plan or none, with a list of period ends or none.
+#[no_mangle]
+pub extern "C" fn kh_am004_reckon_periods<'a>(
+    dossier: &'a [u8],
+    plan: &'a [u8],
+    ends: &[u16],
+    result: &mut [u8],
+) -> u32
+    ensures { λ r. ⌜ r ≡ reckonNumber (now (dossier .entry)) (now (plan .entry)) (now (ends .entry)) (length (now (result .entry))) ⌝ }
+    ensures { λ r. ⌜ now (result .exit) ≡ reckonBuffer (now (dossier .entry)) (now (plan .entry)) (now (ends .entry)) (now (result .entry)) ⌝ }
+{
+    reckon(dossier, plan, ends, result) as u32
+}
+
+// The same with no list.
 #[no_mangle]
 pub extern "C" fn kh_am004_reckon_plan<'a>(
     dossier: &'a [u8],
     plan: &'a [u8],
     result: &mut [u8],
 ) -> u32
-    ensures { λ r. ⌜ r ≡ reckonNumber (now (dossier .entry)) (now (plan .entry)) (length (now (result .entry))) ⌝ }
-    ensures { λ r. ⌜ now (result .exit) ≡ reckonBuffer (now (dossier .entry)) (now (plan .entry)) (now (result .entry)) ⌝ }
+    ensures { λ r. ⌜ r ≡ reckonNumber (now (dossier .entry)) (now (plan .entry)) [] (length (now (result .entry))) ⌝ }
+    ensures { λ r. ⌜ now (result .exit) ≡ reckonBuffer (now (dossier .entry)) (now (plan .entry)) [] (now (result .entry)) ⌝ }
 {
-    reckon(dossier, plan, result) as u32
+    let none = [0u16; 1];
+    kh_am004_reckon_periods(dossier, plan, &none[..0], result)
 }
 
-// The same with no plan.
+// The same with neither list nor plan.
 #[no_mangle]
 pub extern "C" fn kh_am004_reckon(dossier: &[u8], result: &mut [u8]) -> u32
-    ensures { λ r. ⌜ r ≡ reckonNumber (now (dossier .entry)) [] (length (now (result .entry))) ⌝ }
-    ensures { λ r. ⌜ now (result .exit) ≡ reckonBuffer (now (dossier .entry)) [] (now (result .entry)) ⌝ }
+    ensures { λ r. ⌜ r ≡ reckonNumber (now (dossier .entry)) [] [] (length (now (result .entry))) ⌝ }
+    ensures { λ r. ⌜ now (result .exit) ≡ reckonBuffer (now (dossier .entry)) [] [] (now (result .entry)) ⌝ }
 {
-    reckon(dossier, &dossier[..0], result) as u32
+    kh_am004_reckon_plan(dossier, &dossier[..0], result)
 }

@@ -10,7 +10,7 @@ use lib.ListN.{length, take, getD}
 use lib.Seq.{sets, take-suc, length-take-le}
 use Rattle.arithmetic.proofs.StoreLaws.{sets-append}
 use Rattle.wire.specs.Signed.{figureBytes, figuresBytes, written}
-use Rattle.wire.proofs.SignedLaws.{length-figure, length-figures, figures-append, written-more}
+use Rattle.wire.proofs.SignedLaws.{length-figure, written-more}
 use Rattle.figures.specs.declared.Figures.{Figures}
 use Rattle.report.specs.Report.{eight, eights, closing, reported}
 
@@ -34,11 +34,6 @@ stored-four a b c d s at =
     ∙ stored-next c (d ∷ []) _ (at + 16) (at + 24) (omega arith)
     ∙ stored-next d [] _ (at + 24) (at + 32) (omega arith)
     ∙ stored-none _ (at + 32))
-
--- figures stored right after stored ones
-pub stored-more : (xs ys : List ℤ) (s : List ℕ) (at next : ℕ) → at + 8 * length xs ≡ next
-    → sets (sets s at (figuresBytes xs)) next (figuresBytes ys) ≡ sets s at (figuresBytes (xs ++ ys))
-stored-more xs ys s at next e = rw (figures-append xs ys) (sym (sets-append s at (figuresBytes xs) (figuresBytes ys) ∙ rw (length-figures xs, e)))
 
 -- eight numbers a year
 length-eights : (figures : List Figures) → length (eights figures) ≡ 8 * length figures

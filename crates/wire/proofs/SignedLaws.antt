@@ -2,13 +2,14 @@
 -- Assumes nothing.
 use Prim.Native.Nat.{ℕ, _+_, _-_, _*_, _^_, _≤_, _<_}
 use mathlib.Core.Path.{_≡_, refl, _∙_, ap, sym}
-use mathlib.Core.List.{List, [], _∷_, _++_, append-assoc}
+use mathlib.Core.List.{List, [], _∷_, _++_, append-assoc, append-nil}
 use native.Mathlib.Omega.{arith}
 use lib.IntN.{ℤ, pos, negsuc}
 use lib.Signed.{mag}
 use lib.ListN.{length, drop, length-append, length-drop}
 use lib.Seq.{sets, sets-eq, take-at, drop-at, drop-append-add, drop-drop}
 use borrow.Author.Tests.{lt-ltb, le-ltb}
+use Rattle.arithmetic.proofs.StoreLaws.{sets-append}
 use Rattle.wire.specs.Bytes.{bytes, fieldAt}
 use Rattle.wire.specs.Signed.{twosComplement, figureBytes, figuresBytes, written, signed, figureAt}
 use Rattle.wire.proofs.BytesLaws.{length-bytes, take-bytes}
@@ -49,6 +50,16 @@ pub figures-append : (xs ys : List ℤ) → figuresBytes (xs ++ ys) ≡ figuresB
 unfolding figuresBytes
 figures-append [] ys = refl
 figures-append (x ∷ xs) ys = rw (figures-append xs ys) (sym (append-assoc (figureBytes x) (figuresBytes xs) (figuresBytes ys)))
+
+-- figures stored right after stored ones, and one figure
+pub stored-more : (xs ys : List ℤ) (s : List ℕ) (at next : ℕ) → at + 8 * length xs ≡ next
+    → sets (sets s at (figuresBytes xs)) next (figuresBytes ys) ≡ sets s at (figuresBytes (xs ++ ys))
+stored-more xs ys s at next e = rw (figures-append xs ys) (sym (sets-append s at (figuresBytes xs) (figuresBytes ys) ∙ rw (length-figures xs, e)))
+
+pub stored-one : (xs : List ℤ) (z : ℤ) (s : List ℕ) (at next : ℕ) → at + 8 * length xs ≡ next
+    → sets (sets s at (figuresBytes xs)) next (figureBytes z) ≡ sets s at (figuresBytes (xs ++ (z ∷ [])))
+unfolding figuresBytes
+stored-one xs z s at next e = rw (append-nil (figureBytes z)) at (stored-more xs (z ∷ []) s at next e)
 
 -- the figure z that stands after the figures xs in a buffer
 pub written-figure : (xs : List ℤ) (z : ℤ) (ys : List ℤ) (buffer : List ℕ) (at : ℕ) → 8 * length xs ≡ at → mag z < 2 ^ 63 → figureAt (written (xs ++ (z ∷ ys)) buffer) at ≡ z

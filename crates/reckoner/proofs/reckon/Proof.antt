@@ -21,7 +21,7 @@ returns : tie.Need-returns
 returns c =
     let at-answer = c .before in
     let made = at-answer .before .before .before .of-dossier in
-    reckon-no _ _ _ _ (made .ensures .0) _ (at-answer .answer .given .1)
+    reckon-no _ _ _ _ _ (made .ensures .0) _ (at-answer .answer .given .1)
 
 same-length : tie.Need-same-length
 same-length c = search needs
@@ -31,7 +31,7 @@ returns-2 c =
     let at-write = c .before .before in
     let at-told = at-write .before .before in
     let made = at-told .before .before .before .of-dossier in
-    reckon-yes _ _ _ _ (made .ensures .0) (at-told .enum-told .given .1) _ _ (at-write .write-ledger .ensures)
+    reckon-yes _ _ _ _ _ (made .ensures .0) (at-told .enum-told .given .1) _ _ (at-write .write-ledger .ensures)
 
 pub reckon-spec : {M : Type 1} → statement M
 reckon-spec =

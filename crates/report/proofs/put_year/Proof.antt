@@ -10,7 +10,7 @@ use mir.Syntax.{w64}
 use mir.Val.{toZ, ofZ}
 use mir.Facts.{toZ-ofZ}
 use borrow.Author.Needs.{needs, sfits-of}
-use Rattle.report.proofs.ReportLaws.{stored-more}
+use Rattle.wire.proofs.SignedLaws.{stored-more}
 use Rattle.report.proofs.put_year.Statement.{statement}
 use Rattle.report.proofs.put_year.Tie as tie
 

@@ -1,0 +1,4 @@
+pub mod EndsLaws
+pub mod RunningLaws
+pub mod IssuedLaws
+pub mod TogetherLaws
