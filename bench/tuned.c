@@ -1,8 +1,9 @@
 /* The yardstick of the benchmark: the same steps as tests/plain.c, written for speed. Loads and stores are byte-swapped
  * words; no product and no division is wider than 64 bits; a table is weighed as it is read, a row of twelve at a time; no
  * table is copied. A plan is judged once, and its index says where a year's records stand. Each record but CR is packed into
- * one word, and an equal one is looked for only where a filter has seen its slot; a second CR is compared with the first. It
- * is not proved: tests/run compares it as it does the plain one, by clang too where that is there. */
+ * one word, and an equal one is looked for only where a filter has seen its slot; a second CR is compared with the first. A
+ * list of period ends is judged and its tonnes are issued in one pass. It is not proved: tests/run compares it as it does the
+ * plain one, by clang too where that is there. */
 #include "plain.h"
 #include <string.h>
 
@@ -417,14 +418,34 @@ INLINE uint32_t probabilities(bytes s, uint32_t option, uint64_t matrix[12][12])
     return 0;
 }
 
-uint32_t plain_reckon(const uint8_t *dossier, size_t dossier_len, const uint8_t *plan, size_t plan_len, uint8_t *result, size_t result_len)
+INLINE int64_t tonnes(int64_t grams) { return grams > 0 ? grams / 1000000 : 0; }
+
+/* the tonnes issued at each end, which follow the n years and their four numbers in out; 15 where the list is not sound */
+APART uint32_t issue(const uint16_t *ends, size_t count, uint32_t first, uint32_t n, int64_t *out)
+{
+    int64_t running = 0, before = 0;
+    uint32_t y = 0;
+    for (size_t k = 0; k < count; k++) {
+        if (ends[k] < first + y || ends[k] >= first + n)
+            return 15;
+        while (first + y <= ends[k])
+            running += out[8 * y++ + 7];
+        int64_t all = tonnes(running), more = all > before ? all - before : 0;
+        before += more;
+        out[8 * n + 4 + k] = more;
+    }
+    return y < n ? 15 : 0;
+}
+
+uint32_t plain_reckon(const uint8_t *dossier, size_t dossier_len, const uint8_t *plan, size_t plan_len, const uint16_t *ends, size_t ends_len,
+                      uint8_t *result, size_t result_len)
 {
     bytes s = dossier, end = dossier + dossier_len;
     uint64_t area[2][12], start[2], balance[2] = { 0, 0 };
     uint64_t matrix[12][12], factors[12][12], counted[12][12];
     uint32_t fault, filed[12];
     const uint32_t *stock = built_in;
-    int64_t out[8 * 20 + 4], total = 0;
+    int64_t out[8 * 20 + 4 + 20], total = 0;
     struct plan lent;
     struct filter filter;
 
@@ -498,14 +519,16 @@ uint32_t plain_reckon(const uint8_t *dossier, size_t dossier_len, const uint8_t 
         return fault;
     if (left != 2)
         return 2;
-    if (result_len < 64 * (size_t)n + 32)
+    if (ends_len && (fault = issue(ends, ends_len, first, n, out)))
+        return fault;
+    if (result_len < 64 * (size_t)n + 32 + 8 * ends_len)
         return 10;
     int64_t *f = out + 8 * n;
     f[0] = total;
-    f[1] = total > 0 ? total / 1000000 : 0;
+    f[1] = tonnes(total);
     f[2] = (int64_t)balance[0];
     f[3] = (int64_t)balance[1];
-    for (uint32_t k = 0; k < 8 * n + 4; k++) {
+    for (size_t k = 0; k < 8 * n + 4 + ends_len; k++) {
         uint64_t v = __builtin_bswap64((uint64_t)out[k]);
         memcpy(result + 8 * k, &v, 8);
     }

@@ -14,16 +14,20 @@ extern "C" {
  * its meaning, a figure its rule of reckoning, or a dossier that was accepted is refused; the second where something is
  * added or, with the same answers, takes less time. */
 #define KH_AM004_VERSION_MAJOR 3
-#define KH_AM004_VERSION_MINOR 1
+#define KH_AM004_VERSION_MINOR 2
 
-/* Bytes of the report of n years. */
+/* Bytes of the report of n years: without a list of period ends, and with so many listed ends. */
 #define KH_AM004_REPORT_BYTES(n) (64 * (size_t)(n) + 32)
+#define KH_AM004_PERIODS_BYTES(n, ends) (KH_AM004_REPORT_BYTES(n) + 8 * (size_t)(ends))
 
-/* The greatest number of years, and the bytes of the longest dossier, of the longest plan and of the longest report. */
+/* The greatest number of years and of listed ends, and the bytes of the longest dossier, of the longest plan, and of the
+ * longest report, without a list and with one. */
 #define KH_AM004_MOST_YEARS 20
+#define KH_AM004_MOST_PERIODS 20
 #define KH_AM004_LONGEST_DOSSIER 65328
 #define KH_AM004_LONGEST_PLAN 18322
 #define KH_AM004_LONGEST_REPORT 1312
+#define KH_AM004_LONGEST_PERIODS 1472
 
 /* Where the report holds what. Year y, counted from 0, begins at KH_AM004_AT_YEAR(y), and its figures stand at these
  * offsets from there. */
@@ -45,6 +49,9 @@ enum kh_am004_at {
 #define KH_AM004_AT_BALANCE(n) (64 * (size_t)(n) + 16)
 #define KH_AM004_AT_BELT_BALANCE(n) (64 * (size_t)(n) + 24)
 
+/* After those stand the tonnes issued at the k-th listed end, counted from 0. */
+#define KH_AM004_AT_ISSUED(n, k) (KH_AM004_REPORT_BYTES(n) + 8 * (size_t)(k))
+
 /* The number that a call answers; kh_am004_text has its words. */
 enum kh_am004_number {
     KH_AM004_ACCEPTED = 0,
@@ -61,7 +68,8 @@ enum kh_am004_number {
     KH_AM004_REFUSED_STOCKS = 11,
     KH_AM004_REFUSED_PLAN = 12,
     KH_AM004_REFUSED_PLANNED = 13,
-    KH_AM004_REFUSED_REPEATED = 14
+    KH_AM004_REFUSED_REPEATED = 14,
+    KH_AM004_REFUSED_PERIODS = 15
 };
 
 /* What a number says, in English; "unknown number" for any that no call answers. */
@@ -85,27 +93,44 @@ static inline const char *kh_am004_text(uint32_t number)
     case KH_AM004_REFUSED_PLANNED: return "PL: the plan lacks the year, or its emissions are not small enough";
     case KH_AM004_REFUSED_REPEATED:
         return "two activity records of a year are equal in mark and all fields, in the dossier or in the plan";
+    case KH_AM004_REFUSED_PERIODS:
+        return "the list of period ends: not rising, outside the dossier's years, or without its last year";
     default: return "unknown number";
     }
 }
 
 /*
- * Reckons a dossier, its PL years by the records that the plan has for them; plan_len 0 is no plan. 0: the report stands
+ * Reckons a dossier, its PL years by the records that the plan has for them, and issues tonnes at the end of each
+ * verification period, by the list of their last years; plan_len 0 is no plan, ends_len 0 no list. 0: the report stands
  * at the start of result, and the bytes beyond it are as they were. Otherwise the number of the refusal, and every byte
  * of result is as it was. The plan is judged before the dossier, whether or not it is used, and its first fault counts:
- * 14 for two equal records of a planned year, as in a year of the dossier, 12 for any other.
+ * 14 for two equal records of a planned year, as in a year of the dossier, 12 for any other. The list is judged after
+ * both, and 10 comes last, which counts the issued tonnes too.
  *
- * The caller owes valid pointers: dossier to dossier_len bytes and plan to plan_len bytes that can be read and may
- * overlap, result to result_len bytes that can be written, and it must not overlap the other two. A pointer may be null
- * where its length is 0. The call keeps none, needs no heap, and may be made from several threads at once.
+ * The caller owes valid pointers: dossier to dossier_len bytes, plan to plan_len bytes and ends to ends_len numbers that
+ * can be read and may overlap, result to result_len bytes that can be written, and it must not overlap the other three.
+ * A pointer may be null where its length is 0. The call keeps none, needs no heap, and may be made from several threads
+ * at once.
  *
  * The report is of big-endian 64-bit numbers in two's complement: each year's figures and the total in grams of CO2,
- * the tonnes, and the balances in millionths of a hectare.
+ * the tonnes, the balances in millionths of a hectare, and the tonnes issued at each listed end.
+ *
+ * ends_len is the count of years, not of bytes. The years are numbers in the host's own byte order, aligned as uint16_t
+ * is, while dossier, plan and report are big-endian bytes. They rise strictly and are years of the dossier, the last its
+ * last year; otherwise 15. An empty list means one period, and the report is that of the calls without a list.
+ *
+ * The tonnes issued at an end are the whole tonnes of the running total, which is the sum of the credited figures up to
+ * that year, less those issued before, and 0 if that is negative. An owner can rely on this: after each end, all issued
+ * tonnes together equal the greatest of 0 and the whole tonnes of every running total at an end so far.
  */
+uint32_t kh_am004_reckon_periods(const uint8_t *dossier, size_t dossier_len, const uint8_t *plan, size_t plan_len,
+                                 const uint16_t *ends, size_t ends_len, uint8_t *result, size_t result_len);
+
+/* kh_am004_reckon_periods with no list. */
 uint32_t kh_am004_reckon_plan(const uint8_t *dossier, size_t dossier_len, const uint8_t *plan, size_t plan_len,
                               uint8_t *result, size_t result_len);
 
-/* kh_am004_reckon_plan with no plan: a dossier with a PL year is refused. */
+/* kh_am004_reckon_periods with neither list nor plan: a dossier with a PL year is refused. */
 uint32_t kh_am004_reckon(const uint8_t *dossier, size_t dossier_len, uint8_t *result, size_t result_len);
 
 #ifdef __cplusplus

@@ -1,7 +1,8 @@
 /* Compares the proved reckoner with the plain one: the same number and the same bytes on dossiers and plans sound, cut,
- * padded and spoilt, none with two equal records in a year (#105) but where a pair is meant; a thread stack of 64 KiB; and,
- * on the longest dossier, no longer a time. The argument is another seed; a second one leaves the times out. Where they
- * differ it prints the seed, and target/difference.dossier and target/difference.plan have the bytes. */
+ * padded and spoilt, none with two equal records in a year (#105) but where a pair is meant, and on lists of period ends
+ * sound and spoilt; what an owner can rely on (#107); a thread stack of 64 KiB; and, on the longest dossier, no longer a
+ * time. The argument is another seed; a second one leaves the times out. Where they differ it prints the seed, and
+ * target/difference.dossier and .plan have the bytes, target/difference.ends the years as text. */
 #define _POSIX_C_SOURCE 200809L
 #include "kh_am004.h"
 #include "plain.h"
@@ -12,12 +13,13 @@
 #include <time.h>
 
 enum { FU, VE, NI, LI, CR };
-enum { ONE = 1000000, MOST_RECORDS = 5 + 21 * (3 + 61) + 1 };
+enum { ONE = 1000000, MOST_RECORDS = 5 + 21 * (3 + 61) + 1, BUFFER = 1600 };
 
 /* bytes, and of those in the making where each record begins and where the last one ends */
 struct bytes { uint8_t s[70000]; size_t n, begins[MOST_RECORDS + 1]; int records; };
 
 static struct bytes made, plan, spoilt, spoilt_plan, none, *into = &made;
+static struct { uint16_t years[40]; size_t n; } ends; /* what every call is lent beside dossier and plan */
 static uint64_t seed = 0x9e3779b97f4a7c15, given;
 
 static uint64_t draw(uint64_t below)
@@ -41,11 +43,22 @@ static int stored(const char *path, const struct bytes *b)
     return file && fclose(file) == 0 && whole;
 }
 
+/* the period ends as text, with commas between them */
+static const struct bytes *ends_as_text(void)
+{
+    static struct bytes text;
+    for (size_t k = 0; k < ends.n; k++)
+        text.n += (size_t)sprintf((char *)text.s + text.n, "%s%d", k ? "," : "", ends.years[k]);
+    text.s[text.n++] = '\n';
+    return &text;
+}
+
 /* Fails with the bytes in files. */
 static _Noreturn void differ(const struct bytes *d, const struct bytes *p, const char *what, uint32_t proved, uint32_t due, size_t room)
 {
-    int whole = stored("target/difference.dossier", d) && stored("target/difference.plan", p);
-    printf("%s: proved %u, due %u, buffer of %zu, seed %llu; target/difference.dossier and .plan %s\n", what, proved, due, room,
+    int whole = stored("target/difference.dossier", d) && stored("target/difference.plan", p) &&
+                stored("target/difference.ends", ends_as_text());
+    printf("%s: proved %u, due %u, buffer of %zu, seed %llu; target/difference.dossier, .plan and .ends %s\n", what, proved, due, room,
            (unsigned long long)given, whole ? "have the bytes" : "could not be written");
     exit(1);
 }
@@ -275,37 +288,44 @@ static void dossier(int option, int filed, int first, int years, int planned, in
         end();
 }
 
-static unsigned counts[15], positive, of_either_sign, with_stocks, with_plan, with_residues;
+static unsigned counts[16], positive, of_either_sign, with_stocks, with_plan, with_residues, with_ends, paused, resumed;
+
+static int64_t credited(const uint8_t *report, size_t y)
+{
+    return (int64_t)number(report + KH_AM004_AT_YEAR(y) + KH_AM004_AT_CREDITED);
+}
 
 /* counts the reports with tonnes, and those with years of either sign */
 static void count_signs(const uint8_t *report, size_t n)
 {
     int above = 0, below = 0;
     for (size_t y = 0; y < n; y++) {
-        int64_t credited = (int64_t)number(report + KH_AM004_AT_YEAR(y) + KH_AM004_AT_CREDITED);
-        above |= credited > 0;
-        below |= credited < 0;
+        above |= credited(report, y) > 0;
+        below |= credited(report, y) < 0;
     }
     positive += number(report + KH_AM004_AT_TONNES(n)) > 0;
     of_either_sign += above && below;
 }
 
-/* The answer of the proved reckoner; where no plan is lent, that of both its calls. */
-static uint32_t proved_reckon(const struct bytes *d, const struct bytes *p, uint8_t result[1500], size_t room)
+/* The answer of the proved reckoner; where no list is lent, or neither list nor plan, that of each call that takes none. */
+static uint32_t proved_reckon(const struct bytes *d, const struct bytes *p, uint8_t result[BUFFER], size_t room)
 {
-    static uint8_t other[1500];
-    if (p->n)
-        return kh_am004_reckon_plan(d->s, d->n, p->s, p->n, result, room);
-    memcpy(other, result, sizeof other);
-    uint32_t a = kh_am004_reckon_plan(d->s, d->n, NULL, 0, result, room), b = kh_am004_reckon(d->s, d->n, other, room);
-    if (a != b || memcmp(result, other, sizeof other))
-        differ(d, p, "kh_am004_reckon and the call with no plan", a, b, room);
+    static uint8_t old[BUFFER], other[BUFFER];
+    int others = ends.n ? 0 : p->n ? 1 : 2;
+    memcpy(old, result, sizeof old);
+    uint32_t a = kh_am004_reckon_periods(d->s, d->n, p->n ? p->s : NULL, p->n, ends.n ? ends.years : NULL, ends.n, result, room);
+    for (int k = 0; k < others; k++) {
+        memcpy(other, old, sizeof other);
+        uint32_t b = k ? kh_am004_reckon(d->s, d->n, other, room) : kh_am004_reckon_plan(d->s, d->n, p->s, p->n, other, room);
+        if (a != b || memcmp(result, other, sizeof other))
+            differ(d, p, k ? "kh_am004_reckon and the call with neither" : "kh_am004_reckon_plan and the call with no list", a, b, room);
+    }
     return a;
 }
 
 static uint32_t plainly(const struct bytes *d, const struct bytes *p, uint8_t *result, size_t room)
 {
-    return plain_reckon(d->s, d->n, p->s, p->n, result, room);
+    return plain_reckon(d->s, d->n, p->s, p->n, ends.years, ends.n, result, room);
 }
 
 /* the bytes of the record that begins at a place; 0 where none does, or one is cut */
@@ -330,9 +350,34 @@ static int has_residue(const struct bytes *b)
     return 0;
 }
 
-static void same(const struct bytes *d, const struct bytes *p, size_t room)
+static int first_year(const struct bytes *d) { return d->s[3] << 8 | d->s[4]; }
+
+/* What an owner can rely on: after each end, all issued tonnes together equal the greatest of 0 and the whole tonnes of every
+ * running total at an end so far. Counts the lists of several ends, and those with 0 after tonnes, and tonnes after that. */
+static void rely(const struct bytes *d, const struct bytes *p, const uint8_t *report, size_t room)
 {
-    static uint8_t proved[1500], plain[1500];
+    int64_t running = 0, greatest = 0, issued = 0;
+    int pause = 0, more = 0;
+    for (size_t k = 0, y = 0; k < ends.n; k++) {
+        for (; first_year(d) + (int)y <= ends.years[k]; y++)
+            running += credited(report, y);
+        greatest = running / ONE > greatest ? running / ONE : greatest;
+        int64_t tonnes = (int64_t)number(report + KH_AM004_AT_ISSUED(d->s[5], k));
+        pause |= issued > 0 && tonnes == 0;
+        more |= pause && tonnes > 0;
+        issued += tonnes;
+        if (issued != greatest)
+            differ(d, p, "the tonnes issued up to an end", (uint32_t)issued, (uint32_t)greatest, room);
+    }
+    with_ends += ends.n > 1;
+    paused += pause != 0;
+    resumed += more != 0;
+}
+
+/* the same number and the same bytes, with the list that is lent */
+static void same_with_ends(const struct bytes *d, const struct bytes *p, size_t room)
+{
+    static uint8_t proved[BUFFER], plain[BUFFER];
     for (size_t k = 0; k < sizeof proved; k++)
         proved[k] = plain[k] = (uint8_t)draw(256);
     uint32_t a = proved_reckon(d, p, proved, room), b = plainly(d, p, plain, room);
@@ -343,13 +388,55 @@ static void same(const struct bytes *d, const struct bytes *p, size_t room)
     counts[a]++;
     if (a == KH_AM004_ACCEPTED) {
         count_signs(proved, d->s[5]);
+        rely(d, p, proved, room);
         with_stocks += memcmp(d->s + 6, "ST", 2) == 0;
         with_plan += plainly(d, &none, plain, room) == KH_AM004_REFUSED_PLANNED;
         with_residues += has_residue(d);
     }
 }
 
-static size_t some_room(void) { return draw(2) ? 1312 : draw(1400); }
+static void list(int year) { ends.years[ends.n++] = (uint16_t)year; }
+
+/* a list of period ends spoilt in some way */
+static void spoil_ends(void)
+{
+    uint16_t *some = ends.years + draw(ends.n), last = ends.years[ends.n - 1];
+    switch (draw(7)) {
+    case 0: ends.n--; break;
+    case 1: *some = (uint16_t)draw(65536); break;
+    case 2: *some = (uint16_t)(*some + (draw(2) ? 1 : -1)); break;
+    case 3: *some = ends.years[draw(ends.n)]; break;
+    case 4: list(last + (int)draw(3) - 1); break;
+    case 5: /* another first */
+        memmove(ends.years + 1, ends.years, ends.n++ * sizeof *some);
+        ends.years[0] = (uint16_t)(ends.years[1] - draw(3));
+        break;
+    default: /* more than twenty */
+        while (ends.n < 21 + draw(4))
+            list(last + (int)draw(2) * (int)ends.n);
+    }
+}
+
+/* lends none, or a list of years of a dossier that is sound or spoilt */
+static void some_ends(const struct bytes *d)
+{
+    int years = 1 + (d->s[5] + 31) % 32;
+    uint64_t turn = draw(5), in_four = draw(5);
+    for (int y = 0; turn && y < years; y++)
+        if (y == years - 1 || draw(4) < in_four)
+            list(first_year(d) + y);
+    if (turn == 1)
+        spoil_ends();
+}
+
+static void same(const struct bytes *d, const struct bytes *p, size_t room)
+{
+    some_ends(d);
+    same_with_ends(d, p, room);
+    ends.n = 0;
+}
+
+static size_t some_room(void) { return draw(2) ? KH_AM004_LONGEST_PERIODS : draw(1550); }
 
 /* whether two records of a year, or of a planned one, are equal in mark and all fields */
 static int has_equal(const struct bytes *b)
@@ -551,7 +638,7 @@ static void spoil_plan(void)
 
 static void expect(uint32_t due, size_t room)
 {
-    static uint8_t result[1500];
+    static uint8_t result[BUFFER];
     uint32_t answer = proved_reckon(&made, &plan, result, room);
     if (answer != due)
         differ(&made, &plan, "an edge", answer, due, room);
@@ -590,7 +677,7 @@ static void at_limit(void)
         emit((others - 1) / 19 + (y == over));
     }
     end();
-    same(&made, &plan, 1312);
+    same(&made, &plan, KH_AM004_LONGEST_PERIODS);
     expect(over < years ? 13 : 0, 1312);
 }
 
@@ -746,7 +833,7 @@ static void residue_emissions(void)
         { { { 1, 10000, 10000, 10000, 500, 500, 10000, 10000 } }, 5736500000000 },
         { { { 2, 10000, 10000, 10000, 500, 500, 10000, 10000 } }, 2458500000000 },
     };
-    static uint8_t report[1500];
+    static uint8_t report[BUFFER];
     size_t n = made.n;
     for (size_t k = 0; k < sizeof cases / sizeof *cases; k++, made.n = n) {
         start(&made);
@@ -824,6 +911,131 @@ static void residue_edges(void)
     residue_counts();
 }
 
+/* lists beside a dossier of 2020 to 2022; 0 is no year */
+static const struct { uint16_t years[4]; uint32_t due; } lists[] = {
+    { { 0 }, 0 },
+    { { 2022 }, 0 },
+    { { 2020, 2022 }, 0 },
+    { { 2020, 2021, 2022 }, 0 },
+    { { 2021, 2020, 2022 }, 15 },       /* falling */
+    { { 2022, 2021 }, 15 },
+    { { 2020, 2022, 2021, 2022 }, 15 },
+    { { 2020, 2020, 2022 }, 15 },       /* equal */
+    { { 2022, 2022 }, 15 },
+    { { 2019, 2022 }, 15 },             /* before the first year */
+    { { 1, 2022 }, 15 },
+    { { 2020, 2022, 2023 }, 15 },       /* after the last */
+    { { 2023 }, 15 },
+    { { 65535 }, 15 },
+    { { 58887 }, 15 },                  /* 2022 in the other byte order */
+    { { 2020, 2021 }, 15 },             /* the last missing */
+    { { 2021 }, 15 },
+};
+
+static void lend(const uint16_t years[4])
+{
+    ends.n = 0;
+    for (int k = 0; k < 4 && years[k]; k++)
+        list(years[k]);
+}
+
+/* each fault of a list, and which number comes first: that of plan or dossier, 15, 10 */
+static void list_edges(void)
+{
+    dossier(1, 0, 2020, 3, 0, 0, 0);
+    for (size_t k = 0; k < sizeof lists / sizeof *lists; k++) {
+        lend(lists[k].years);
+        uint32_t due = lists[k].due;
+        size_t room = 64 * 3 + 32 + 8 * ends.n;
+        expect(due, room);
+        expect(due ? due : 10, room - 1);
+        expect(due ? due : 10, 0);
+        if (due == 0)
+            same_with_ends(&made, &plan, room + draw(9));
+        made.n--;
+        expect(1, room);
+        plan.s[plan.n++] = 'E';
+        expect(12, room);
+        plan.n = 0;
+        made.n++;
+    }
+    ends.n = 0;
+}
+
+static void every_year(int first, int years)
+{
+    ends.n = 0;
+    for (int y = 0; y < years; y++)
+        list(first + y);
+}
+
+/* as many ends as there can be, and one more: after the last, before the first, or equal to one */
+static void longest_list(void)
+{
+    dossier(2, 1, 2200, 20, 0, 0, 0);
+    every_year(2200, 20);
+    expect(10, KH_AM004_LONGEST_PERIODS - 1);
+    expect(0, KH_AM004_LONGEST_PERIODS);
+    same_with_ends(&made, &plan, KH_AM004_LONGEST_PERIODS + 1);
+    list(2220);
+    expect(15, BUFFER);
+    ends.years[20] = 2219;
+    expect(15, BUFFER);
+    every_year(2199, 21);
+    expect(15, BUFFER);
+    ends.n = 0;
+}
+
+static uint64_t reduction(const uint8_t *report, int y) { return number(report + KH_AM004_AT_YEAR(y) + KH_AM004_AT_REDUCTION); }
+
+/* whether every year has a reduction that the records of a year can take away, and not a small one; a negative one is above */
+static int reducible(const uint8_t *report, int years)
+{
+    for (int y = 0; y < years; y++)
+        if (reduction(report, y) < 100 * ONE || reduction(report, y) > 100000000000000)
+            return 0;
+    return 1;
+}
+
+/* a dossier of the years from 2020 on whose credited figures are these, by records that emit the rest */
+static void credit(const int64_t *due, int years)
+{
+    static uint8_t report[BUFFER];
+    do {
+        dossier(1, 0, 2020, years, 0, 0, 0);
+        plainly(&made, &plan, report, sizeof report);
+    } while (!reducible(report, years));
+    for (int y = years; y--;) {
+        int64_t left = due[y] > 0 ? (5 * due[y] + 3) / 4 : due[y];
+        size_t at = made.begins[3 + 3 * (y + 1)]; /* after HD, PA, DA, and the YR, CP and CD of each year */
+        start(&filed_run);
+        emit(reduction(report, y) - (uint64_t)left);
+        insert(&made, at, filed_run.n);
+        memcpy(made.s + at, filed_run.s, filed_run.n);
+    }
+}
+
+/* running totals at whole tonnes, a gram less, fallen back, below 0 and passed again, and what is issued at every year */
+static void issue_edges(void)
+{
+    static const int64_t due[] = { -1, 1000000, 1, 999999, 1, -1000001, 1000001, 1999999, -5000000, 5000000, -1, 1000001 };
+    static const uint64_t issued[] = { 0, 0, 1, 0, 1, 0, 0, 1, 0, 0, 0, 1 };
+    enum { YEARS = sizeof due / sizeof *due };
+    static uint8_t report[BUFFER];
+    credit(due, YEARS);
+    every_year(2020, YEARS);
+    expect(0, 64 * YEARS + 32 + 8 * YEARS);
+    proved_reckon(&made, &plan, report, sizeof report);
+    for (size_t k = 0; k < YEARS; k++) {
+        uint64_t tonnes = number(report + KH_AM004_AT_ISSUED(YEARS, k));
+        if (credited(report, k) != due[k] || tonnes != issued[k])
+            differ(&made, &plan, "the tonnes issued at an end", (uint32_t)tonnes, (uint32_t)issued[k], sizeof report);
+    }
+    ends.n = 0;
+    for (int k = 0; k < 100; k++)
+        same(&made, &plan, KH_AM004_LONGEST_PERIODS);
+}
+
 /* document 01's unmarked edges */
 static void edges(void)
 {
@@ -848,7 +1060,7 @@ static void edges(void)
 static void long_inputs(void)
 {
     static const char *const after[9] = { "EN", "YR", "FU", "VE", "NI", "LI", "CR", "PL", "??" };
-    static uint8_t result[1500];
+    static uint8_t result[BUFFER];
     struct bytes *b = &spoilt;
     for (int k = 0; k < 2000; k++) {
         if (k % 100 == 0)
@@ -874,15 +1086,16 @@ static void long_inputs(void)
 
 static void *on_thread(void *unused)
 {
-    static uint8_t result[1312];
+    static uint8_t result[KH_AM004_LONGEST_PERIODS];
     (void)unused;
-    return kh_am004_reckon_plan(made.s, made.n, plan.s, plan.n, result, sizeof result) ? NULL : &made;
+    return kh_am004_reckon_periods(made.s, made.n, plan.s, plan.n, ends.years, ends.n, result, sizeof result) ? NULL : &made;
 }
 
-/* dossier and plan are accepted on a small stack */
+/* dossier and plan are accepted on a small stack, with a list of every year */
 static void on_small_stack(void)
 {
     void *answer = NULL;
+    every_year(first_year(&made), made.s[5]);
     pthread_attr_t small;
     pthread_t thread;
     pthread_attr_init(&small);
@@ -891,6 +1104,7 @@ static void on_small_stack(void)
     pthread_join(thread, &answer);
     if (answer != &made)
         fail("a dossier is refused on a stack of 64 KiB");
+    ends.n = 0;
 }
 
 /* twenty years by the longest plan */
@@ -911,13 +1125,13 @@ static void longest_dossier(void)
         fail("no longest dossier");
 }
 
-static double seconds(uint32_t (*reckon)(const uint8_t *, size_t, const uint8_t *, size_t, uint8_t *, size_t))
+static double seconds(uint32_t (*reckon)(const uint8_t *, size_t, const uint8_t *, size_t, const uint16_t *, size_t, uint8_t *, size_t))
 {
     static uint8_t result[1312];
     struct timespec a, b;
     clock_gettime(CLOCK_MONOTONIC, &a);
     for (int k = 0; k < 20; k++)
-        if (reckon(made.s, made.n, plan.s, plan.n, result, sizeof result))
+        if (reckon(made.s, made.n, plan.s, plan.n, ends.years, ends.n, result, sizeof result))
             fail("a dossier is refused that was accepted");
     clock_gettime(CLOCK_MONOTONIC, &b);
     return (double)(b.tv_sec - a.tv_sec) + 1e-9 * (double)(b.tv_nsec - a.tv_nsec);
@@ -927,7 +1141,7 @@ static void compare_times(void)
 {
     double proved = 1, plain = 1;
     for (int k = 0; k < 100; k++) {
-        double a = seconds(kh_am004_reckon_plan), b = seconds(plain_reckon);
+        double a = seconds(kh_am004_reckon_periods), b = seconds(plain_reckon);
         proved = a < proved ? a : proved;
         plain = b < plain ? b : plain;
     }
@@ -943,7 +1157,7 @@ static void compare_bytes(void)
         dossier(1 + (int)draw(2), -1, first, 1 + (int)draw(20), -1, -1, 0);
         same(&made, &plan, some_room());
         dossier(1 + (int)draw(2), -1, first, 1 + (int)draw(20), -1, (int)draw(5), 0);
-        same(&made, &plan, 1312);
+        same(&made, &plan, KH_AM004_LONGEST_PERIODS);
         for (int s = 0; s < 10; s++)
             spoil();
         for (int s = 0; s < 5; s++)
@@ -951,18 +1165,21 @@ static void compare_bytes(void)
         at_limit();
     }
     printf("same number and same bytes; how often each number came:");
-    for (int k = 0; k <= 13; k++)
+    for (int k = 0; k <= 15; k++)
         printf(" %u", counts[k]);
     printf("\nof the accepted ones %u had tonnes, %u years of either sign, %u stocks of their own, %u planned years, %u CR\n", positive,
            of_either_sign, with_stocks, with_plan, with_residues);
-    for (int k = 0; k <= 13; k++)
-        if (!counts[k])
+    printf("of their lists %u had several period ends, %u an issue of 0 after tonnes, %u tonnes after that\n", with_ends, paused, resumed);
+    for (int k = 0; k <= 15; k++)
+        if (!counts[k] && k != KH_AM004_REFUSED_REPEATED)
             fail("not every number came");
     if (counts[KH_AM004_REFUSED_REPEATED])
         fail("a year of the comparison has two equal records");
     if (positive < counts[0] / 5 || of_either_sign < counts[0] / 20 || with_stocks < counts[0] / 5 || with_plan < counts[0] / 5 ||
         with_residues < counts[0] / 5)
         fail("too few of the accepted dossiers had tonnes, years of either sign, stocks of their own, planned years, or CR");
+    if (with_ends < counts[0] / 5 || paused < counts[0] / 20 || resumed < counts[0] / 100)
+        fail("too few of the lists had several period ends, an issue of 0 after tonnes, or tonnes after that");
 }
 
 int main(int argc, char **argv)
@@ -974,6 +1191,9 @@ int main(int argc, char **argv)
     plan_edges();
     plan_forms();
     residue_edges();
+    list_edges();
+    longest_list();
+    issue_edges();
     long_inputs();
     compare_bytes();
     longest_plan();

@@ -1,4 +1,5 @@
-/* Tests the header: each figure by its name, each refusal by its name, the lengths, null where a length is 0, and plans.
+/* Tests the header: each figure by its name, each refusal by its name, the lengths, null where a length is 0, plans, and
+ * lists of period ends.
  *
  *     header FIGURES.dossier FIGURES.txt CASE-A.dossier     made by tests/independent/figures.py, and case A
  *     header numbers                                        prints each number with its text
@@ -65,18 +66,25 @@ static size_t place(const char *name, size_t y)
     exit(1);
 }
 
-/* The answer by the call that takes a plan; with none the other call has the same answer and the same report. */
+/* A call that takes less has the same answer and leaves the same bytes. */
+static void expect_same(const char *call, uint32_t answer, uint32_t due, const uint8_t *other, const uint8_t *report, size_t room)
+{
+    expect(call, answer, due);
+    for (size_t k = 0; k < room; k++)
+        expect(call, other[k], report[k]);
+}
+
+/* The answer by the whole call with no list, and by those that take none. */
 static uint32_t reckon(const uint8_t *dossier, size_t length, const uint8_t *plan, size_t plan_length, uint8_t *report, size_t room)
 {
-    static uint8_t other[KH_AM004_LONGEST_REPORT];
+    static uint8_t others[2][KH_AM004_LONGEST_REPORT];
+    uint8_t *other = room ? others[0] : NULL, *third = room ? others[1] : NULL;
     for (size_t k = 0; k < room; k++)
-        other[k] = report[k];
-    uint32_t answer = kh_am004_reckon_plan(dossier, length, plan, plan_length, report, room);
-    if (plan_length == 0) {
-        expect("the answer of kh_am004_reckon", kh_am004_reckon(dossier, length, room ? other : NULL, room), answer);
-        for (size_t k = 0; k < room; k++)
-            expect("a byte that kh_am004_reckon leaves", other[k], report[k]);
-    }
+        other[k] = third[k] = report[k];
+    uint32_t answer = kh_am004_reckon_periods(dossier, length, plan, plan_length, NULL, 0, report, room);
+    expect_same("kh_am004_reckon_plan", kh_am004_reckon_plan(dossier, length, plan, plan_length, other, room), answer, other, report, room);
+    if (plan_length == 0)
+        expect_same("kh_am004_reckon", kh_am004_reckon(dossier, length, third, room), answer, third, report, room);
     return answer;
 }
 
@@ -250,6 +258,93 @@ static void test_longest_plan(const uint8_t *a, size_t length)
     refused_by("a plan of three CR a year", KH_AM004_REFUSED_PLAN, a, length, plan, m, sizeof report);
 }
 
+static int first_year(const uint8_t *dossier) { return dossier[3] << 8 | dossier[4]; }
+
+/* Every year from one to another; their count. */
+static size_t make_list(uint16_t *ends, int first, int last)
+{
+    for (int year = first; year <= last; year++)
+        ends[year - first] = (uint16_t)year;
+    return (size_t)(last - first + 1);
+}
+
+static void test_periods_names(void)
+{
+    static const char text[] = "the list of period ends: not rising, outside the dossier's years, or without its last year";
+    expect("the longest report with a list", KH_AM004_LONGEST_PERIODS,
+           KH_AM004_PERIODS_BYTES(KH_AM004_MOST_YEARS, KH_AM004_MOST_PERIODS));
+    expect("a report with no listed end", KH_AM004_PERIODS_BYTES(7, 0), KH_AM004_REPORT_BYTES(7));
+    expect("the first end's place", KH_AM004_AT_ISSUED(7, 0), KH_AM004_AT_BELT_BALANCE(7) + 8);
+    expect("the place after three ends", KH_AM004_AT_ISSUED(7, 2) + 8, KH_AM004_PERIODS_BYTES(7, 3));
+    expect("the number of a list refused", KH_AM004_REFUSED_PERIODS, 15);
+    expect("its text", strcmp(kh_am004_text(KH_AM004_REFUSED_PERIODS), text), 0);
+}
+
+/* What an owner can rely on after each end. */
+static void test_relied_on(const uint8_t *dossier, const uint16_t *ends, size_t count, const uint8_t *report)
+{
+    int64_t running = 0, greatest = 0, issued = 0;
+    for (size_t k = 0, y = 0; k < count; k++) {
+        for (; first_year(dossier) + (int)y <= ends[k]; y++)
+            running += number(report, KH_AM004_AT_YEAR(y) + KH_AM004_AT_CREDITED);
+        greatest = running / 1000000 > greatest ? running / 1000000 : greatest;
+        issued += number(report, KH_AM004_AT_ISSUED(dossier[5], k));
+        expect("all tonnes issued up to an end", issued, greatest);
+    }
+}
+
+/* A list changes no byte of what stands before its tonnes, and none after them. */
+static void test_issued(const uint8_t *dossier, size_t length, const uint16_t *ends, size_t count)
+{
+    static uint8_t report[KH_AM004_LONGEST_PERIODS + 1], without[KH_AM004_LONGEST_REPORT];
+    size_t years = dossier[5], bytes = KH_AM004_PERIODS_BYTES(years, count);
+    memset(report, 165, sizeof report);
+    expect("a report one byte short", kh_am004_reckon_periods(dossier, length, NULL, 0, ends, count, report, bytes - 1),
+           KH_AM004_REFUSED_BUFFER);
+    for (size_t k = 0; k < sizeof report; k++)
+        expect("a byte after a refusal", report[k], 165);
+    expect("a list's answer", kh_am004_reckon_periods(dossier, length, NULL, 0, ends, count, report, bytes), KH_AM004_ACCEPTED);
+    expect("the answer without a list", reckon(dossier, length, NULL, 0, without, sizeof without), KH_AM004_ACCEPTED);
+    expect("the report before the tonnes", memcmp(report, without, KH_AM004_REPORT_BYTES(years)), 0);
+    for (size_t k = bytes; k < sizeof report; k++)
+        expect("a byte after the tonnes", report[k], 165);
+    test_relied_on(dossier, ends, count, report);
+    if (count == 1)
+        expect("the tonnes of one end", number(report, KH_AM004_AT_ISSUED(years, 0)), number(report, KH_AM004_AT_TONNES(years)));
+}
+
+/* A list refused leaves the buffer as it was, however long that is; a fault of dossier or plan comes first. */
+static void refused_list(const char *fault, const uint8_t *a, size_t length, const uint16_t *ends, size_t count)
+{
+    uint8_t report[KH_AM004_LONGEST_PERIODS], old[sizeof report];
+    memset(report, 165, sizeof report);
+    memcpy(old, report, sizeof report);
+    expect(fault, kh_am004_reckon_periods(a, length, NULL, 0, ends, count, report, sizeof report), KH_AM004_REFUSED_PERIODS);
+    expect(fault, kh_am004_reckon_periods(a, length, NULL, 0, ends, count, NULL, 0), KH_AM004_REFUSED_PERIODS);
+    expect(fault, kh_am004_reckon_periods(a, length - 1, NULL, 0, ends, count, report, sizeof report), KH_AM004_REFUSED_BYTES_END);
+    expect(fault, kh_am004_reckon_periods(a, length, a, length, ends, count, report, sizeof report), KH_AM004_REFUSED_PLAN);
+    expect("a buffer after a list refused", memcmp(report, old, sizeof report), 0);
+}
+
+/* By case A, whose year is 2020, and by the longest dossier. */
+static void test_periods(const uint8_t *a, size_t length, const uint8_t *longest, size_t longest_length)
+{
+    static const uint16_t around[3] = { 2019, 2020, 2021 }, twice[2] = { 2020, 2020 };
+    uint16_t ends[KH_AM004_MOST_PERIODS + 1];
+    int first = first_year(longest), last = first + KH_AM004_MOST_YEARS - 1;
+    test_periods_names();
+    test_issued(a, length, around + 1, 1);
+    test_issued(longest, longest_length, ends, make_list(ends, last, last));
+    test_issued(longest, longest_length, ends, make_list(ends, first, last));
+    refused_list("a year before the first", a, length, around, 2);
+    refused_list("a year after the last", a, length, around + 1, 2);
+    refused_list("a year twice", a, length, twice, 2);
+    refused_list("the last year missing", longest, longest_length, ends, make_list(ends, first, last - 1));
+    refused_list("21 years", longest, longest_length, ends, make_list(ends, first, last + 1));
+    ends[0] = ends[2];
+    refused_list("a year that falls", longest, longest_length, ends, KH_AM004_MOST_PERIODS);
+}
+
 static void print_numbers(void)
 {
     for (uint32_t n = KH_AM004_ACCEPTED; strcmp(kh_am004_text(n), "unknown number"); n++)
@@ -272,6 +367,7 @@ int main(int argc, char **argv)
     test_null(a, a_length);
     test_plan(a, a_length);
     test_longest_plan(a, a_length);
-    printf("the header: each figure of twenty years, each refusal, null and plans, by their names\n");
+    test_periods(a, a_length, longest, length);
+    printf("the header: each figure of twenty years, each refusal, null, plans and lists of period ends, by their names\n");
     return 0;
 }

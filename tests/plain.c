@@ -203,12 +203,35 @@ static int monitored(struct input *in, const char *mark, wide start, unsigned co
     return 0;
 }
 
-uint32_t plain_reckon(const uint8_t *dossier, size_t dossier_len, const uint8_t *plan, size_t plan_len, uint8_t *result, size_t result_len)
+/* 15 where the list of period ends does not rise within these years, up to the last; an empty one is sound */
+static int judge_ends(const uint16_t *ends, size_t count, int first, int last)
+{
+    int before = first - 1;
+    for (size_t k = 0; k < count; before = ends[k++])
+        if (ends[k] <= before || ends[k] > last)
+            return 15;
+    return count && before != last ? 15 : 0;
+}
+
+static int64_t tonnes(int64_t grams) { return grams > 0 ? grams / 1000000 : 0; }
+
+/* the tonnes issued at each end; running has the credited totals before each year and after the last */
+static void issue(const uint16_t *ends, size_t count, int first, const int64_t *running, int64_t *issued)
+{
+    int64_t before = 0;
+    for (size_t k = 0; k < count; before += issued[k++]) {
+        int64_t more = tonnes(running[ends[k] - first + 1]) - before;
+        issued[k] = more < 0 ? 0 : more;
+    }
+}
+
+uint32_t plain_reckon(const uint8_t *dossier, size_t dossier_len, const uint8_t *plan, size_t plan_len, const uint16_t *ends, size_t ends_len,
+                      uint8_t *result, size_t result_len)
 {
     struct input in = { dossier, dossier_len, 0 }, lent = { plan, plan_len, 0 };
     uint64_t area[2][12], balance[2] = { 0, 0 };
     unsigned stock[12], matrix[12][12] = { { 0 } }, factors[12][12], counted[144];
-    int64_t out[8 * 20 + 4], total = 0;
+    int64_t out[8 * 20 + 4 + 20], running[21] = { 0 };
     wide start[2];
     int fault;
 
@@ -271,7 +294,7 @@ uint32_t plain_reckon(const uint8_t *dossier, size_t dossier_len, const uint8_t 
             return 13;
         f[6] = f[0] - f[1] - f[2] - f[5];
         f[7] = f[6] < 0 ? f[6] : f[6] * 4 / 5;
-        total += f[7];
+        running[y + 1] = running[y] + f[7];
     }
     if (stands(&in, "YR"))
         return in.n - in.at < 6 ? 1 : 6;
@@ -279,14 +302,17 @@ uint32_t plain_reckon(const uint8_t *dossier, size_t dossier_len, const uint8_t 
         return (uint32_t)fault;
     if (in.at != in.n)
         return 2;
-    if (result_len < 64 * (size_t)n + 32)
+    if ((fault = judge_ends(ends, ends_len, first, first + n - 1)))
+        return (uint32_t)fault;
+    if (result_len < 64 * (size_t)n + 32 + 8 * ends_len)
         return 10;
     int64_t *f = out + 8 * n;
-    f[0] = total;
-    f[1] = total > 0 ? total / 1000000 : 0;
+    f[0] = running[n];
+    f[1] = tonnes(running[n]);
     f[2] = (int64_t)balance[0];
     f[3] = (int64_t)balance[1];
-    for (int k = 0; k < 8 * n + 4; k++)
+    issue(ends, ends_len, first, running, f + 4);
+    for (int k = 0; k < 8 * n + 4 + (int)ends_len; k++)
         for (int b = 0; b < 8; b++)
             result[8 * k + b] = (uint8_t)((uint64_t)out[k] >> (56 - 8 * b));
     return 0;

@@ -1,8 +1,14 @@
 /* A host: reckons the dossier file it is given, by the plan file after it if there is one, and prints its figures as CSV
- * for a spreadsheet. It ends with 1 where dossier or plan is refused, with 2 where a file can't be read or the figures
- * can't be written. */
+ * for a spreadsheet, after them the tonnes issued at each period end that it is given. It ends with 1 where dossier, plan
+ * or list is refused, with 2 where an argument or a file can't be read or the figures can't be written. */
 #include "kh_am004.h"
 #include <stdio.h>
+#include <string.h>
+
+/* Room for more period ends than are accepted, so that the reckoner refuses them. */
+enum { MOST_LISTED = 64 };
+
+struct list { uint16_t ends[MOST_LISTED]; size_t count; };
 
 static int64_t number(const uint8_t *report, size_t offset)
 {
@@ -35,7 +41,7 @@ static void print_year(int year, const uint8_t *figures)
     printf("\n");
 }
 
-static void print_report(int first, size_t years, const uint8_t *report)
+static void print_report(int first, size_t years, const struct list *periods, const uint8_t *report)
 {
     print_titles();
     for (size_t y = 0; y < years; y++)
@@ -44,6 +50,35 @@ static void print_report(int first, size_t years, const uint8_t *report)
     printf("tonnes,%lld\n", (long long)number(report, KH_AM004_AT_TONNES(years)));
     printf("balance,%lld\n", (long long)number(report, KH_AM004_AT_BALANCE(years)));
     printf("belt balance,%lld\n", (long long)number(report, KH_AM004_AT_BELT_BALANCE(years)));
+    for (size_t k = 0; k < periods->count; k++)
+        printf("issued,%d,%lld\n", periods->ends[k], (long long)number(report, KH_AM004_AT_ISSUED(years, k)));
+}
+
+/* A number up to 65535, and the place after it; -1 where none stands there. */
+static long read_year(const char **text)
+{
+    const char *s = *text;
+    long year = 0;
+    for (; *s >= '0' && *s <= '9' && year <= 65535; s++)
+        year = 10 * year + (*s - '0');
+    int found = s != *text && year <= 65535;
+    *text = s;
+    return found ? year : -1;
+}
+
+/* The period ends with commas between them; -1 where they are something else or too many. No text is no list. */
+static int read_list(const char *text, struct list *periods)
+{
+    periods->count = 0;
+    if (*text == '\0')
+        return 0;
+    do {
+        long year = periods->count < MOST_LISTED ? read_year(&text) : -1;
+        if (year < 0)
+            return -1;
+        periods->ends[periods->count++] = (uint16_t)year;
+    } while (*text++ == ',');
+    return text[-1] == '\0' ? 0 : -1;
 }
 
 /* These first bytes of a file settle the answer for all of it: the longest dossier has a few less, the longest plan far
@@ -63,25 +98,34 @@ static long read_file(const char *path, uint8_t *bytes)
     return failed ? -1 : (long)length;
 }
 
-int main(int argc, char **argv)
+static int reckon_files(const char *dossier_path, const char *plan_path, const struct list *periods)
 {
-    static uint8_t dossier[FIRST_BYTES], plan[FIRST_BYTES], report[KH_AM004_LONGEST_REPORT];
-    if (argc != 2 && argc != 3) {
-        fprintf(stderr, "usage: host DOSSIER [PLAN]\n");
-        return 2;
-    }
-    long length = read_file(argv[1], dossier), plan_length = argc == 3 ? read_file(argv[2], plan) : 0;
+    static uint8_t dossier[FIRST_BYTES], plan[FIRST_BYTES], report[KH_AM004_LONGEST_PERIODS];
+    long length = read_file(dossier_path, dossier), plan_length = plan_path ? read_file(plan_path, plan) : 0;
     if (length < 0 || plan_length < 0)
         return 2;
-    uint32_t answer = kh_am004_reckon_plan(dossier, (size_t)length, plan, (size_t)plan_length, report, sizeof report);
+    uint32_t answer = kh_am004_reckon_periods(dossier, (size_t)length, plan, (size_t)plan_length, periods->ends, periods->count,
+                                              report, sizeof report);
     if (answer != KH_AM004_ACCEPTED) {
         fprintf(stderr, "refused %u: %s\n", (unsigned)answer, kh_am004_text(answer));
         return 1;
     }
-    print_report(dossier[3] << 8 | dossier[4], dossier[5], report);
+    print_report(dossier[3] << 8 | dossier[4], dossier[5], periods, report);
     if (fflush(stdout)) {
         perror("standard output");
         return 2;
     }
     return 0;
+}
+
+int main(int argc, char **argv)
+{
+    struct list periods = { .count = 0 };
+    int listed = argc > 1 && strcmp(argv[1], "--periods") == 0, files = argc - 1 - 2 * listed;
+    char **paths = argv + 1 + 2 * listed;
+    if ((files != 1 && files != 2) || (listed && read_list(argv[2], &periods))) {
+        fprintf(stderr, "usage: host [--periods YEAR,YEAR,..] DOSSIER [PLAN]\n");
+        return 2;
+    }
+    return reckon_files(paths[0], files == 2 ? paths[1] : NULL, &periods);
 }
