@@ -1,5 +1,5 @@
 #!/usr/bin/env python3
-"""Makes the example dossiers and plans, in this folder or in another: python3 examples/make.py [FOLDER]"""
+"""Makes the example dossiers, plans and lists of period ends, in this folder or in another: python3 examples/make.py [FOLDER]"""
 import pathlib
 import struct
 import sys
@@ -47,6 +47,20 @@ def case_a():
 def bad_year():
     """Case A's year and one more, in which 3 ha turn into non-forest: its reduction is negative, and deducted whole."""
     return evergreen(CASE_A, (365, 3_000_000, b""))
+
+
+PERIOD_ENDS = 2021, 2022, 2024
+
+
+def periods():
+    """Five years, case A's the first. In 2022, a period by itself, 3.5 ha turn into non-forest: no tonnes are issued at its end, and at the next
+    one only those beyond what was issued before."""
+    return evergreen(CASE_A, (365, 800_000, b""), (365, 3_500_000, b""), (365, 900_000, CASE_A[2]), (366, 1_100_000, b""))
+
+
+def listed(ends):
+    """End years as text, for a host's option."""
+    return (",".join(map(str, ends)) + "\n").encode()
 
 
 def twenty_years():
@@ -123,7 +137,7 @@ def planned():
 
 def refusals():
     """One dossier for each refusal that bytes alone can bring, case A or another example with one fault; 12 is that of its plan, 13 that no
-    plan is lent, 14 that the invoice for the diesel is booked twice."""
+    plan is lent, 14 that the invoice for the diesel is booked twice, 15 that its list of period ends lacks the last year."""
     good, long = case_a(), twenty_years()
 
     def with_bytes(data, at, new):
@@ -144,6 +158,7 @@ def refusals():
         12: planned()[0],
         13: evergreen((366, 1_000_000, b"PL")),
         14: good[:-2] + fuel + b"EN",
+        15: periods(),
     }
 
 
@@ -164,3 +179,6 @@ if __name__ == "__main__":
     for number, data in refusals().items():
         (folder / f"refused-{number}.dossier").write_bytes(data)
     (folder / "refused-12.plan").write_bytes(falling_years())
+    (folder / "periods.dossier").write_bytes(periods())
+    (folder / "periods.ends").write_bytes(listed(PERIOD_ENDS))
+    (folder / "refused-15.ends").write_bytes(listed(PERIOD_ENDS[:-1]))
