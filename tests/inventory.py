@@ -4,8 +4,8 @@
     python3 tests/inventory.py            fails where the tree holds less, more or something else
     python3 tests/inventory.py --renew    writes tests/inventory.txt from the tree; do so with each change that means to add or drop
 
-A line is one must-fail edit, one section of vectors or calls with its count, one example dossier or plan, one stored input or
-output of a program, now or in an earlier version, with its bytes and the beginning of its SHA-256, or one step of tests/run.
+A line is one must-fail edit, one section of vectors or calls with its count, one example dossier, plan or list of period ends, one stored input
+or output of a program, now or in an earlier version, with its bytes and the beginning of its SHA-256, or one step of tests/run.
 """
 import hashlib
 import pathlib
@@ -35,7 +35,7 @@ def sections():
 
 def examples():
     return [f"{kind} {path.name} {digest(path)}"
-            for kind, suffix in (("example", "dossier"), ("plan", "plan")) for path in ROOT.glob(f"examples/*.{suffix}")]
+            for kind, suffix in (("example", "dossier"), ("plan", "plan"), ("ends", "ends")) for path in ROOT.glob(f"examples/*.{suffix}")]
 
 
 def programs():
@@ -83,7 +83,7 @@ def main():
                             "if that is meant: python3 tests/inventory.py --renew"]))
     found = counts(lines)
     print(f"the tree holds what is listed: {found['must-fail']} must-fail edits, {found['vectors']} vectors, {found['calls']} calls, "
-          f"{found['example']} example dossiers and {found['plan']} plans")
+          f"{found['example']} example dossiers, {found['plan']} plans and {found['ends']} lists of period ends")
 
 
 if __name__ == "__main__":

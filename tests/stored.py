@@ -4,10 +4,10 @@
     python3 tests/stored.py           runs target/bin/vectors and target/bin/ledgertrace
     python3 tests/stored.py --keep    stores what this version answers: to be run before a change of the reckoning
 
-tests/stored has what both programs of an earlier version read and wrote; its example dossiers, each with its plan if it has one, are
-the last of the vectors. Vectors of a version before plans are asked with no plan. A year that has two equal records is refused 14 now
-(#105), where the independent reckoner finds no earlier fault. If it was accepted then, the calls after it, up to the next opening, go
-by a ledger without that year: what they answer is the independent ledger's to say.
+tests/stored has what both programs of an earlier version read and wrote; its example dossiers, each with its plan and its period ends if
+it has them, are the last of the vectors. Vectors of a version before plans are asked with no plan, those of one before periods with no
+ends. A year that has two equal records is refused 14 now (#105), where the independent reckoner finds no earlier fault. If it was accepted
+then, the calls after it, up to the next opening, go by a ledger without that year: what they answer is the independent ledger's to say.
 """
 import itertools
 import lzma
@@ -37,8 +37,9 @@ def bad_years_whole(report):
 
 # The version that brought a change of reports, and how a report of before becomes one of that version.
 CHANGES = (((2, 0), bad_years_whole),)
-# The first version whose vectors have plans (#103), and the first that refuses two equal records of a year (#105).
-PLANS, EQUAL_REFUSED = (2, 2), (3, 0)
+# The first version whose vectors have plans (#103), the first whose vectors have ends (#107), and the first that refuses two equal records
+# of a year (#105).
+PLANS, ENDS, EQUAL_REFUSED = (2, 2), (3, 2), (3, 0)
 
 
 def due_now(version, words, numbers):
@@ -58,10 +59,10 @@ def is_equal_now(version, dossier, plan):
 def ask_vectors(version, data, lines):
     """What the program vectors reads now, and the lines due."""
     asked, due = [], []
-    for label, dossier, plan, room, line in vectors.stored_vectors(data, lines, plans=version >= PLANS):
+    for label, dossier, plan, ends, room, line in vectors.stored_vectors(data, lines, plans=version >= PLANS, ends=version >= ENDS):
         number, *words = map(int, line[len(label):].split())
         size = 8 * dossier[5] + 4 if number == 0 else 0  # dossier[5] is HD's n
-        asked.append(vectors.stored(label, dossier, plan, room))
+        asked.append(vectors.stored(label, dossier, plan, ends, room))
         if is_equal_now(version, dossier, plan):
             due.append(f"{label} 14")
         else:
@@ -104,8 +105,9 @@ def written(program, data):
 
 def example_vectors():
     for path in sorted((ROOT / "examples").glob("*.dossier")):
-        plan = path.with_suffix(".plan")
-        yield vectors.stored(f"example {path.name}", path.read_bytes(), plan.read_bytes() if plan.exists() else b"", 1312)
+        plan, ends = path.with_suffix(".plan"), path.with_suffix(".ends")
+        yield vectors.stored(f"example {path.name}", path.read_bytes(), plan.read_bytes() if plan.exists() else b"",
+                             reckoner.years_in(ends.read_text()) if ends.exists() else (), reckoner.LONGEST_REPORT)
 
 
 def keep():

@@ -1,12 +1,12 @@
-"""Dossiers and plans for the tests: sound ones of many kinds, and ways to spoil them.
+"""Dossiers, plans and lists of period ends for the tests: sound ones of many kinds, and ways to spoil them.
 
-A dossier is a list of records, a record its mark and its fields; a plan is another such list.
+A dossier is a list of records, a record its mark and its fields; a plan is another such list. Period ends are a list of years.
 """
 import itertools
 import math
 import struct
 
-from reckoner import CLASSES, STOCK, Cursor, days_of, read_activities, reckon, up
+from reckoner import CLASSES, LONGEST_REPORT, MOST_ENDS, STOCK, Cursor, days_of, read_activities, reckon, up
 
 LIMIT = 10**12
 MOST_STOCK = 50000
@@ -91,6 +91,11 @@ def pieces(records):
     starts = [k for k, (mark, _) in enumerate(records) if mark == "YR"]
     ends = starts[1:] + [len(records) - records.count(END)]
     return records[:starts[0]], [records[a:b] for a, b in zip(starts, ends)]
+
+
+def numbers_of(years):
+    """The number of each year of these pieces."""
+    return [due[0][1][0] for due in years]
 
 
 # Sound dossiers
@@ -259,8 +264,8 @@ def planned(rng, records):
     """A dossier with PL in some of its years, and a plan that has these years: mostly with activities that are small enough, in one dossier
     of four with a gram too much."""
     head, years = pieces(records)
-    _, ledger = reckon(encode(records), bytearray(1312))
-    listed, numbers, over = {}, [due[0][1][0] for due in years], rng.choice((0, 0, 0, 1))
+    _, ledger = reckon(encode(records), bytearray(LONGEST_REPORT))
+    listed, numbers, over = {}, numbers_of(years), rng.choice((0, 0, 0, 1))
     for number, due, (_, project, _, _, _, displaced, _, _) in zip(numbers, years, ledger.years):
         if rng.random() < (0.7 if project + displaced else 0.1):
             due[3:] = [PLANNED]
@@ -275,6 +280,24 @@ def other_plan(rng, listed):
     k = rng.randrange(len(starts)) if starts else 0
     less = listed[:starts[k]] + listed[[*starts, -1][k + 1]:] if starts else [END]
     return rng.choice((spoiled(rng, listed, rng.choice(ways(listed))), encode(less), b"EN", b""))
+
+
+# Ends of periods (#107)
+
+def sound_ends(rng, numbers):
+    """The last of a dossier's years, and before it none, some or all of the others."""
+    *others, last = numbers
+    return sorted(rng.sample(others, rng.choice((0, rng.randint(0, len(others)), len(others))))) + [last]
+
+
+def spoiled_ends(rng, numbers):
+    """Mostly no sound list: another year in one's place, before one or at the end, one again, the last left out, the order changed, or more than
+    there can be."""
+    ends = sound_ends(rng, numbers)
+    k, other = rng.randrange(len(ends)), rng.choice((*numbers, numbers[0] - 1, numbers[-1] + 1, 0, 65535, rng.randrange(65536)))
+    return rng.choice((ends[:k] + [other] + ends[k + 1:], ends[:k] + [other] + ends[k:], ends + [other], ends[:k + 1] + ends[k:], ends[:-1],
+                       ends[::-1], rng.sample(ends, len(ends)), ends[:k] + [ends[k]] * MOST_ENDS + ends[k:],
+                       list(range(numbers[-1] - MOST_ENDS, numbers[-1] + 1))))
 
 
 # Different records that a filter takes for equal ones

@@ -4,7 +4,8 @@
     python3 tests/independent/reckoner.py < DOSSIER            prints the sheet, and checks demand 3 of it
     python3 tests/independent/reckoner.py --gap < DOSSIER      prints the total, the unrounded one, the gap and its bound
 
-Either takes --plan PLAN too, a file with the plan that is lent (#103).
+Either takes --plan PLAN too, a file with the plan that is lent (#103), and --periods YEAR,YEAR,.. with the end years of the verification
+periods (#107): the sheet then ends with the tonnes issued at each, of which it checks what an owner can rely on.
 """
 import argparse
 import pathlib
@@ -19,6 +20,8 @@ PAIRS = [(i, j) for i in CLASSES for j in CLASSES]
 FUEL = {1: 318630, 2: 306999, 3: 310059}
 LIMING = {1: 132, 2: 143, 3: 220}
 NITROGEN = {(1, 1): 1325, (2, 1): 1425, (3, 1): 1225, (1, 2): 625, (2, 2): 725, (3, 2): 525}
+MOST_YEARS = MOST_ENDS = 20
+LONGEST_REPORT = 64 * MOST_YEARS + 32 + 8 * MOST_ENDS  # 1,472 bytes
 ACTIVITY_FIELDS = {b"FU": (1, 8), b"VE": (1, 4, 4, 4), b"NI": (1, 1, 8, 2), b"LI": (1, 8), b"CR": (1, 4, 4, 2, 2, 2, 2, 2)}
 
 
@@ -35,7 +38,7 @@ def require(holds, number):
 
 def demand(holds, what):
     if not holds:
-        raise AssertionError("demand 3 fails: " + what)
+        raise AssertionError("what an owner relies on fails: " + what)
 
 
 class Cursor:
@@ -193,11 +196,16 @@ class Ledger:
         self.option, self.first, self.n, self.matrix = 0, 0, 0, dict.fromkeys(PAIRS, 0)
         self.stock, self.factor = dict.fromkeys(CLASSES, 0), dict.fromkeys(PAIRS, 0)
         self.project, self.belt = Region(), Region()
-        self.years, self.total, self.exact, self.records = [], 0, Fraction(0), 0
+        self.years, self.running, self.exact, self.records = [], [0], Fraction(0), 0
+
+    @property
+    def total(self):
+        """The last of the running totals, which have the grams credited before the first year and up to the end of each (#107)."""
+        return self.running[-1]
 
     def read_opening(self, cursor):
         option, first, n = cursor.record(b"HD", (1, 2, 1))
-        require(option in (1, 2) and 2000 <= first <= 2200 and 1 <= n <= 20, 3)
+        require(option in (1, 2) and 2000 <= first <= 2200 and 1 <= n <= MOST_YEARS, 3)
         stock = STOCK
         if cursor.sees((b"ST",)):
             stock = dict(zip(CLASSES, cursor.record(b"ST", (2,) * 12)))
@@ -252,7 +260,7 @@ class Ledger:
 
     def take(self, year):
         self.years.append(year.figures)
-        self.total += year.figures[-1]
+        self.running.append(self.total + year.figures[-1])
         self.exact += discounted(year.exact)
         self.project, self.belt = year.regions
         self.records += year.records
@@ -271,6 +279,30 @@ class Ledger:
             demand(sum(region.areas.values()) + region.balance == region.start, "areas and balance make up the starting area")
             demand(region.balance <= 132 * len(self.years), "the balance is at most 132 a year")
             demand(all(region.areas[c] <= region.exact[c] for c in CLASSES), "no area exceeds its unrounded one")
+
+    def judge_ends(self, ends):
+        """#107: at most 20 years that rise, within the dossier's, of which they have the last; or none."""
+        last = self.first + self.n - 1
+        rising, inside = all(a < b for a, b in zip(ends, ends[1:])), all(self.first <= end <= last for end in ends)
+        require(not ends or len(ends) <= MOST_ENDS and rising and inside and ends[-1] == last, 15)
+
+    def whole_tonnes(self, end):
+        """Those of the running total at the end of a year."""
+        return self.running[end - self.first + 1] // 1000000
+
+    def issued(self, ends):
+        """The tonnes issued at each end (#107): what the running total has beyond those issued before, if it has."""
+        tonnes = []
+        for end in ends:
+            tonnes.append(max(self.whole_tonnes(end) - sum(tonnes), 0))
+        self.check_issued(ends, tonnes)
+        return tonnes
+
+    def check_issued(self, ends, tonnes):
+        """What an owner can rely on after each end (#107)."""
+        for k in range(1, len(ends) + 1):
+            most = max(0, *map(self.whole_tonnes, ends[:k]))
+            demand(sum(tonnes[:k]) == most, "the issued tonnes are the greatest of 0 and the whole tonnes at each end so far")
 
     def open(self, piece):
         try:
@@ -293,19 +325,20 @@ class Ledger:
         self.take(year)
         return 0
 
-    def numbers(self):
+    def numbers(self, ends=()):
         tonnes = self.total // 1000000 if self.total > 0 else 0
-        return [f for figures in self.years for f in figures] + [self.total, tonnes, self.project.balance, self.belt.balance]
+        closing = [self.total, tonnes, self.project.balance, self.belt.balance]
+        return [f for figures in self.years for f in figures] + closing + self.issued(ends)
 
-    def close(self, buffer):
-        report = b"".join(n.to_bytes(8, "big", signed=True) for n in self.numbers())
+    def close(self, buffer, ends=()):
+        report = b"".join(n.to_bytes(8, "big", signed=True) for n in self.numbers(ends))
         if len(buffer) < len(report):
             return 10
         buffer[:len(report)] = report
         return 0
 
 
-def reckon(dossier, buffer, plan=b""):
+def reckon(dossier, buffer, plan=b"", ends=()):
     """The whole reckoning: its number and the ledger; the report in the buffer where it is 0."""
     ledger, cursor = Ledger(), Cursor(dossier)
     try:
@@ -317,13 +350,14 @@ def reckon(dossier, buffer, plan=b""):
             ledger.read_year(cursor, planned)
         cursor.record(b"EN", ())
         require(cursor.left() == 0, 2)
+        ledger.judge_ends(ends)
     except Refused as refused:
         return refused.number, ledger
-    return ledger.close(buffer), ledger
+    return ledger.close(buffer, ends), ledger
 
 
-def sheet(dossier, plan=b""):
-    number, ledger = reckon(dossier, bytearray(1312), plan)
+def sheet(dossier, plan=b"", ends=()):
+    number, ledger = reckon(dossier, bytearray(LONGEST_REPORT), plan, ends)
     if number:
         return f"refused {number}\n"
     lines = ["year reference project activity belt belt-reference displaced reduction credited"]
@@ -331,23 +365,30 @@ def sheet(dossier, plan=b""):
         lines.append(" ".join(map(str, (ledger.first + y, *figures))))
     total, tonnes, balance, belt_balance = ledger.numbers()[-4:]
     lines.append(f"total {total} tonnes {tonnes} balance {balance} {belt_balance}")
+    lines += [f"issued {end} {issued}" for end, issued in zip(ends, ledger.issued(ends))]
     return "".join(line + "\n" for line in lines)
 
 
-def gap(dossier, plan=b""):
-    number, ledger = reckon(dossier, bytearray(1312), plan)
+def gap(dossier, plan=b"", ends=()):
+    number, ledger = reckon(dossier, bytearray(LONGEST_REPORT), plan, ends)
     if number:
         return f"refused {number}\n"
     return f"total {ledger.total} unrounded {ledger.exact} gap {ledger.exact - ledger.total} bound {ledger.bound()}\n"
+
+
+def years_in(text):
+    """The years of a list that commas separate, none in an empty one."""
+    return tuple(int(year) for year in text.split(",") if year.strip())
 
 
 def main():
     options = argparse.ArgumentParser(description=__doc__, formatter_class=argparse.RawDescriptionHelpFormatter)
     options.add_argument("--gap", action="store_true")
     options.add_argument("--plan", type=pathlib.Path)
+    options.add_argument("--periods", type=years_in, default=())
     given = options.parse_args()
     plan = given.plan.read_bytes() if given.plan else b""
-    sys.stdout.write((gap if given.gap else sheet)(sys.stdin.buffer.read(), plan))
+    sys.stdout.write((gap if given.gap else sheet)(sys.stdin.buffer.read(), plan, given.periods))
 
 
 if __name__ == "__main__":

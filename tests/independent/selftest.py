@@ -1,5 +1,6 @@
 #!/usr/bin/env python3
-"""Shows that the independent reckoner checks demand 3: each claim holds just inside its bound, and fails just outside it.
+"""Shows that the independent reckoner checks demand 3 and what is issued (#107): each claim holds just inside its bound, and fails just
+outside it.
 
     python3 tests/independent/selftest.py
 """
@@ -18,9 +19,9 @@ BOUNDS = [(*given, Fraction(bound)) for *given, bound in (
     (50000, 20, 1200, "101641300"))]
 
 
-def holds(ledger):
+def holds(check, *given):
     try:
-        ledger.check()
+        check(*given)
     except AssertionError:
         return False
     return True
@@ -38,7 +39,7 @@ def ledger_of(years, records, stocks=None):
 
 def expect(found, due, what):
     if found != due:
-        sys.exit(f"the independent reckoner's check of demand 3 {'passes' if found else 'fails'} where {what}")
+        sys.exit(f"the independent reckoner's check {'passes' if found else 'fails'} where {what}")
 
 
 def test_totals():
@@ -47,8 +48,8 @@ def test_totals():
         for gap, due, what in ((Fraction(0), True, "the gap is 0"), (-LITTLE, False, "more than the unrounded total is reported"),
                                (bound - LITTLE, True, f"the gap is just below its bound {which}"), (bound, False, f"the gap is its bound {which}")):
             for total in (0, -7, 10**15):
-                ledger.total, ledger.exact = total, total + gap
-                expect(holds(ledger), due, what)
+                ledger.running, ledger.exact = [total], total + gap
+                expect(holds(ledger.check), due, what)
 
 
 def test_bounds():
@@ -81,7 +82,7 @@ def test_planned_records():
         expect(ledger.open(encode(head)) == 0 and ledger.year(encode(piece), listed) == 0, True, f"a year {which} is given")
         for gap, allowed, what in ((Fraction(bound) - LITTLE, True, "just below"), (Fraction(bound), False, "at")):
             ledger.exact = ledger.total + gap
-            expect(holds(ledger), allowed, f"the gap is {what} its bound {which}")
+            expect(holds(ledger.check), allowed, f"the gap is {what} its bound {which}")
 
 
 def test_residue_records():
@@ -106,33 +107,61 @@ def test_regions():
                 ledger = ledger_of(years, 0)
                 region = getattr(ledger, name)
                 region.areas["E"], region.balance = 3000 - lost, lost
-                expect(holds(ledger), due, f"the {name} balance is {lost} after {years} years")
+                expect(holds(ledger.check), due, f"the {name} balance is {lost} after {years} years")
         for c in reckoner.CLASSES:
             for change, due in ((0, True), (-LITTLE, False)):
                 ledger = ledger_of(1, 0)
                 getattr(ledger, name).exact[c] += change
-                expect(holds(ledger), due, f"the unrounded {name} area {c} is {change} beside the rounded one")
+                expect(holds(ledger.check), due, f"the unrounded {name} area {c} is {change} beside the rounded one")
             for change in (1, -1):
                 ledger = ledger_of(1, 0)
                 region = getattr(ledger, name)
                 region.areas[c] += change
                 region.exact[c] += 1
-                expect(holds(ledger), False, f"the {name} area {c} and its balance do not make up the starting area")
+                expect(holds(ledger.check), False, f"the {name} area {c} and its balance do not make up the starting area")
         ledger = ledger_of(1, 0)
         getattr(ledger, name).balance = 1
-        expect(holds(ledger), False, f"an invented {name} balance is reported")
+        expect(holds(ledger.check), False, f"an invented {name} balance is reported")
+
+
+# the running total after each year from 2019 on, the ends, and the tonnes issued at each
+ISSUED = (((5000000, 10000000, 6000000, 9000000, 13000000), (2020, 2021, 2023), [10, 0, 3]), ((-1, 999999, 1000000), (2019, 2020, 2021), [0, 0, 1]),
+          ((5000000, 4999999, 5000000), (2019, 2020, 2021), [5, 0, 0]), ((-5000000, -1, 0), (2019, 2020, 2021), [0, 0, 0]),
+          ((9000000, 2000000), (2020,), [2]), ((10**16,), (2019,), [10**10]))
+
+
+def test_issued():
+    """A tonne more or less at one end, or one issued an end too early or too late, and a total just below a whole tonne."""
+    ledger = reckoner.Ledger()
+    ledger.first = 2019
+    for running, ends, tonnes in ISSUED:
+        ledger.running, which = [0, *running], f"at the ends {ends} of running totals of {running} g"
+        expect(ledger.issued(ends) == tonnes, True, f"{ledger.issued(ends)} tonnes are issued {which}, not {tonnes}")
+        expect(holds(ledger.check_issued, ends, tonnes), True, f"{tonnes} tonnes are issued {which}")
+        for k in range(len(ends)):
+            for more, then in ((1, 0), (-1, 0), (1, -1), (-1, 1)):
+                wrong = [t + more * (j == k) + then * (j == k + 1) for j, t in enumerate(tonnes)]
+                expect(holds(ledger.check_issued, ends, wrong), False, f"{wrong} tonnes are issued {which}")
+    for grams, tonnes in ((-1000000, 0), (-1, 0), (0, 0), (999999, 0), (1000000, 1), (1000001, 1), (1999999, 1), (2000000, 2)):
+        ledger.running = [0, grams]
+        for given in (-1, 0, 1, 2):
+            expect(holds(ledger.check_issued, (2019,), [given]), given == tonnes, f"{given} tonnes are issued of {grams} g")
 
 
 class Counting(reckoner.Ledger):
-    checks = 0
+    checks, issues = 0, 0
 
     def check(self):
         Counting.checks += 1
         super().check()
 
+    def check_issued(self, ends, tonnes):
+        Counting.issues += len(ends)
+        super().check_issued(ends, tonnes)
+
 
 def test_calls():
-    """Every accepted year is checked, in the ledger's calls and in the whole reckoning."""
+    """Every accepted year is checked, in the ledger's calls and in the whole reckoning, and there what is issued."""
     head, years = pieces(case_a())
     ledger = reckoner.Ledger()
     expect(ledger.open(encode(head)) == 0, True, "case A is opened")
@@ -144,7 +173,8 @@ def test_calls():
         pass
     plain, reckoner.Ledger = reckoner.Ledger, Counting
     try:
-        expect(reckoner.reckon(encode(case_a()), bytearray(96))[0] == 0 and Counting.checks == 1, True, "each year is checked once")
+        expect(reckoner.reckon(encode(case_a()), bytearray(104), ends=(2020,))[0] == 0, True, "case A is reckoned with an end")
+        expect((Counting.checks, Counting.issues) == (1, 1), True, "each year and each end is checked once")
     finally:
         reckoner.Ledger = plain
 
@@ -163,9 +193,10 @@ def main():
     test_planned_records()
     test_residue_records()
     test_regions()
+    test_issued()
     test_calls()
     test_rounding()
-    print("the independent reckoner checks demand 3: each claim fails just outside its bound")
+    print("the independent reckoner checks demand 3 and what is issued: each claim fails just outside its bound")
 
 
 if __name__ == "__main__":

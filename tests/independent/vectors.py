@@ -4,10 +4,13 @@
     python3 tests/independent/vectors.py            writes stdin and stdout of crates/vectors and crates/ledgertrace
     python3 tests/independent/vectors.py --check    fails where a stored file is another
     python3 tests/independent/vectors.py --library LIBRARY CALL    tries the stored vectors of crates/vectors on a call in C that takes a
-                                                                   plan, and those without one on kh_am004_reckon, if it is there
+                                                                   plan and period ends, those without ends on kh_am004_reckon_plan and
+                                                                   those with neither on kh_am004_reckon, if they are there
 
-A vector is a label, a dossier, a plan and the length of a buffer filled with 165. Each states here its number, and the figures that tell.
+A vector is a label, a dossier, a plan, the end years of periods and the length of a buffer filled with 165. Each states here its number, and
+the figures that tell.
 """
+import collections
 import ctypes
 import itertools
 import pathlib
@@ -17,11 +20,12 @@ from fractions import Fraction
 from typing import NamedTuple
 
 import reckoner
-from compare import closing, lent, reckoning_call, trace
+from compare import SLICES, closing, lent, lent_ends, reckoning_call, trace
 from dossiers import (END, FIELDS, GREATEST, LIMIT, MOST_PLANNED, MOST_RESIDUES, MOST_STOCK, MOST_WIDE, PLANNED, areas, boundaries, case_a,
                       changed, encode, limestone, matrix, of_one_slot, opening, pieces, places, plan, stays, table, year)
 
 ROOT = pathlib.Path(__file__).resolve().parents[2]
+ROOM = reckoner.LONGEST_REPORT
 FIGURES = "reference project activity belt belt_reference displaced reduction credited total tonnes balance belt_balance".split()
 
 PROJECT, BELT = areas(E=700000, SE=200000, MR=90000, TP=10000), areas(E=50000, FR=30000, NF=20000)
@@ -104,8 +108,14 @@ class Vector(NamedTuple):
     number: int
     dossier: bytes
     plan: bytes
+    ends: tuple
     room: int
     figures: dict
+
+
+def need(records, ends=()):
+    """The bytes of the report."""
+    return 64 * records[0][1][2] + 32 + 8 * len(ends)
 
 
 def as_bytes(given):
@@ -129,12 +139,12 @@ def before(records, mark, nth=0):
     return encode(records[:index(records, mark, nth)])
 
 
-def accepted(label, records, room=None, plan=b"", **figures):
-    return Vector(label, 0, encode(records), as_bytes(plan), 64 * records[0][1][2] + 32 if room is None else room, figures)
+def accepted(label, records, room=None, plan=b"", ends=(), **figures):
+    return Vector(label, 0, encode(records), as_bytes(plan), ends, need(records, ends) if room is None else room, figures)
 
 
-def refused(number, label, data, room=1312, plan=b""):
-    return Vector(label, number, as_bytes(data), as_bytes(plan), room, {})
+def refused(number, label, data, room=ROOM, plan=b"", ends=()):
+    return Vector(label, number, as_bytes(data), as_bytes(plan), ends, room, {})
 
 
 def fault(number, label, records, mark, cells, nth=0):
@@ -554,9 +564,10 @@ def projections():
 
 # Stocks that are filed (#102)
 
-def report(records, listed=()):
-    buffer = bytearray(64 * records[0][1][2] + 32)
-    return reckoner.reckon(encode(records), buffer, encode(listed))[0], buffer
+def report(records, listed=(), ends=()):
+    """The number, and the report without what is issued."""
+    buffer = bytearray(need(records, ends))
+    return reckoner.reckon(encode(records), buffer, encode(listed), ends)[0], buffer[:need(records)]
 
 
 def stock_limits():
@@ -752,14 +763,18 @@ def plan_marks():
     yield refused(12, "a dossier for a plan", one, plan=one)
 
 
+def refused_dossiers():
+    """Of 2019 alone, one for each number that a dossier can have, with that number."""
+    one, run, filed = base(2), base(), filing(NEWER, base(2))
+    yield from ((1, encode(run)[:-1]), (2, encode(run) + b"\0"), (3, put(run, "HD", {2: 0})), (4, put(run, "PA", {0: LIMIT})))
+    yield from ((5, put(one, "MP", {0: 1})), (6, put(run, "YR", {1: 0})), (7, put(run, "CD", {0: 0})), (8, put(run, "LI", {0: 0})))
+    yield from ((9, emitting(*different(61, RUN[:1]))), (11, put(filed, "ST", {11: 1})), (13, base(run=[PLANNED])), (14, emitting(*RUN[:1] * 2)))
+
+
 def plan_first():
     """The plan is judged before the dossier and the buffer, whether or not it is used; a sound one leaves the dossier's number."""
-    one, run, filed = base(2), base(), filing(NEWER, base(2))
-    sixty_one = emitting(*different(61, RUN[:1]))
-    dossiers = {1: encode(run)[:-1], 2: encode(run) + b"\0", 3: put(run, "HD", {2: 0}), 4: put(run, "PA", {0: LIMIT}), 5: put(one, "MP", {0: 1}),
-                6: put(run, "YR", {1: 0}), 7: put(run, "CD", {0: 0}), 8: put(run, "LI", {0: 0}), 9: sixty_one, 11: put(filed, "ST", {11: 1}),
-                13: base(run=[PLANNED])}
-    for number, data in dossiers.items():
+    run = base()
+    for number, data in refused_dossiers():
         for name, wrong in (("a plan of one byte", b"E"), ("a plan of falling years", plan((1, []), (0, [])))):
             yield refused(12, f"{name} comes before {number}", data, plan=wrong)
         yield refused(number, f"{number} beside a plan of other years", data, plan=plan((0, RUN), (65535, RUN)))
@@ -1195,7 +1210,7 @@ def record_ends():
     """Each wrong field and PL of the vectors above, where the bytes end with the record: the number is the same."""
     above = [vector for section in VECTORS[:VECTORS.index(record_ends)] for vector in section()]
     seen = {(vector.dossier, vector.plan) for vector in above}
-    for label, number, data, lent_plan, room, _ in above:
+    for label, number, data, lent_plan, _, room, _ in above:
         if number in (*range(3, 9), 11, 13):
             short = next(data[:end] for end, _ in boundaries(data) if reckoner.reckon(data[:end], bytearray(room), lent_plan)[0] == number)
             if (short, lent_plan) not in seen:
@@ -1374,6 +1389,187 @@ def equal_planned():
     yield refused(14, "a pair, then PL by its plan", emitting(*pair, PLANNED), plan=plan((2019, LITTLE)))
     yield refused(2, "PL by its plan, then a pair", one[:-1] + pair, plan=plan((2019, LITTLE)))
     yield refused(13, "PL without a plan, then a pair", one[:-1] + pair)
+
+
+# Verification periods (#107)
+
+TONNE = 10**6
+
+
+def credited(*grams):
+    """Years from 2019 on that are credited just so many grams."""
+    return reduced(*(g if g < 0 else -(-5 * g // 4) for g in grams))
+
+
+def every_year(records):
+    return tuple(fields[0] for mark, fields in records if mark == "YR")
+
+
+def years_text(ends):
+    return ", ".join(map(str, ends)) or "none"
+
+
+def period_issues():
+    """At each end the whole tonnes of the running total beyond those issued before, if there are any."""
+    for name, credits, ends, issued, tonnes in (
+            ("a bad year between two ends", (5, 5, -4, 3, 4), (2020, 2021, 2023), [10, 0, 3], 13),
+            ("a bad year within a period", (5, 5, -4, 3, 4), (2020, 2022, 2023), [10, 0, 3], 13),
+            ("a bad year made good within its period", (5, 5, -4, 6, 4), (2020, 2022, 2023), [10, 2, 4], 16),
+            ("a bad year first", (-4, 5, 5, 3), (2020, 2022), [1, 8], 9), ("a bad year last", (5, 5, -4), (2020, 2021), [10, 0], 6),
+            ("a bad year last within a period", (5, 8, -4), (2019, 2021), [5, 4], 9), ("two bad years", (9, -2, 3, -5, 6), (), [9, 0, 1, 0, 1], 11),
+            ("a loss just made good", (9, -2, 2), (), [9, 0, 0], 9), ("a loss made good, and a tonne", (9, -2, 3), (), [9, 0, 1], 10),
+            ("a loss never made good", (9, -8, 3, 2, 2), (), [9, 0, 0, 0, 0], 8), ("all lost", (9, -20, 5), (), [9, 0, 0], 0),
+            ("a negative running total at first", (-5, 9), (), [0, 4], 4), ("negative running totals at first", (-5, 3, 1, 4), (), [0, 0, 0, 3], 3),
+            ("negative running totals at every end", (-5, 3, -1), (), [0, 0, 0], 0), ("running totals of 0", (0, 0, 0), (), [0, 0, 0], 0),
+            ("a high that is no end", (10, -8, 3), (2020, 2021), [2, 3], 5), ("a low that is no end", (4, -9, 8, 2), (2019, 2021, 2022), [4, 0, 1], 5),
+            ("every year an end", (3, 1, 4, 1, 5), (), [3, 1, 4, 1, 5], 14), ("the last year alone", (3, 1, 4, 1, 5), (2023,), [14], 14),
+            ("the last year alone, after a bad one", (5, 5, -4), (2021,), [6], 6), ("the last year alone, a loss", (3, 1, -4, -1), (2022,), [0], 0),
+            ("a year between two without credit", (0, 7, 0), (), [0, 7, 0], 7)):
+        records = credited(*(TONNE * t for t in credits))
+        yield accepted(f"{name}, periods", records, ends=ends or every_year(records), issued=issued, tonnes=tonnes, total=TONNE * sum(credits))
+
+
+def period_edges():
+    """A gram more or less than whole tonnes; what is left of a tonne is carried on to the next end."""
+    for tonnes in (1, 2, 128):
+        for more in (-1, 0, 1):
+            total, issued = TONNE * tonnes + more, tonnes - (more < 0)
+            for name, grams, due in (("", [total], [issued]), (" after 700,001 g", [700001, total - 700001], [0, issued]),
+                                     (" after a loss", [total + 5, -5], [tonnes, 0])):
+                records = credited(*grams)
+                yield accepted(f"a running total of {total} g{name}", records, ends=every_year(records), issued=due, total=total, tonnes=issued)
+    for loss in (-1, -999999, -TONNE, -TONNE - 1):
+        records = credited(loss, TONNE - loss - 1, 1)
+        yield accepted(f"a running total of {loss} g, then just below a tonne, then one", records, ends=every_year(records), issued=[0, 0, 1],
+                       total=TONNE)
+    for name, grams, issued in (("600,000 g a year", [600000] * 5, [0, 1, 0, 1, 1]), ("333,333 g a year", [333333] * 3, [0, 0, 0]),
+                                ("333,333 g a year, and a gram", [333333, 333333, 333334], [0, 0, 1]),
+                                ("five tonnes, a gram lost and gained again", [5 * TONNE, -1, 1], [5, 0, 0]),
+                                ("five tonnes less a gram, a gram, and a gram lost", [5 * TONNE - 1, 1, -1], [4, 1, 0])):
+        records = credited(*grams)
+        yield accepted(f"{name}, every year an end", records, ends=every_year(records), issued=issued, total=sum(grams))
+
+
+def period_twenty():
+    """As many ends as there can be, the longest report, and the greatest tonnes."""
+    credits = (2, -1, 3, 0, 4, -5, 1, 6, -2, 2, 2, 0, -9, 5, 5, 1, 7, -1, -1, 2)
+    records = credited(*(TONNE * t for t in credits))
+    ends, issued = every_year(records), [2, 0, 2, 0, 4, 0, 0, 2, 0, 0, 2, 0, 0, 0, 1, 1, 7, 0, 0, 0]
+    yield accepted("n 20 and 20 ends", records, 1472, ends=ends, issued=issued, total=21 * TONNE, tonnes=21)
+    for room in (1312, 1464, 1471):
+        yield refused(10, f"n 20 and 20 ends, buffer {room} of 1472", records, room, ends=ends)
+    yield accepted("n 20 and 19 ends, buffer 1472 of 1464", records, 1472, ends=ends[1:], issued=[1, 3, *issued[3:]])
+    ends = tuple(range(2200, 2220))
+    yield longest()._replace(label="n 20 and 20 ends, the longest dossier", ends=ends, room=1472, figures=dict(issued=[0] * 20))
+    half, turned = areas(SE=LIMIT // 2, NF=LIMIT // 2), matrix(("SE", "NF", 1000000), ("NF", "SE", 1000000))
+    most = filing(areas(SE=MOST_STOCK), years_of(2, 2200, 20, half, areas(), (stays(half), table()), turned))
+    for ends, issued in (((2219,), [14666666666]), ((2200, 2209, 2219), [733333333, 6600000000, 7333333333])):
+        yield accepted(f"the greatest tonnes, ends {years_text(ends)}", most, ends=ends, issued=issued, total=14666666666666640, tonnes=14666666666)
+
+
+def period_lists():
+    """Every sound list of four years, and of one."""
+    four, one = credited(3 * TONNE, TONNE, -2 * TONNE, 4 * TONNE), credited(7 * TONNE)
+    for ends, issued in (((), []), ((2022,), [6]), ((2019, 2022), [3, 3]), ((2020, 2022), [4, 2]), ((2021, 2022), [2, 4]),
+                         ((2019, 2020, 2022), [3, 1, 2]), ((2019, 2021, 2022), [3, 0, 3]), ((2020, 2021, 2022), [4, 0, 2]),
+                         ((2019, 2020, 2021, 2022), [3, 1, 0, 2])):
+        yield accepted(f"periods of four years, ends {years_text(ends)}", four, ends=ends, issued=issued, total=6 * TONNE, tonnes=6)
+    for ends, issued in (((), []), ((2019,), [7])):
+        yield accepted(f"periods of one year, ends {years_text(ends)}", one, ends=ends, issued=issued, total=7 * TONNE, tonnes=7)
+
+
+def exchanged(number):
+    """Its two bytes the other way round."""
+    return number % 256 * 256 + number // 256
+
+
+def period_faults():
+    """Each fault of a list at its first place, a middle one and its last: 15."""
+    four, one, twenty = base(n=4, run=[]), base(run=[]), base(n=20, run=[])  # 2019 to 2022, 2019, and 2019 to 2038
+    sound = 2019, 2020, 2022
+    for k, place in enumerate(("first", "second", "last")):
+        for name, number in (("a year before the first", 2018), ("a year after the last", 2023), ("0", 0), ("65,535", 65535),
+                             ("a year's low byte", sound[k] % 256), ("a year's bytes exchanged", exchanged(sound[k])),
+                             ("a year with another high byte", sound[k] ^ 0x8000)):
+            yield refused(15, f"a list with {name} as the {place}", four, ends=(*sound[:k], number, *sound[k + 1:]))
+    for name, ends in {"two years exchanged at first": (2020, 2019, 2022), "two years exchanged": (2019, 2021, 2020, 2022),
+                       "two years exchanged at last": (2019, 2022, 2020), "falling years": (2022, 2021, 2020, 2019),
+                       "the first year twice": (2019, 2019, 2022), "a year between twice": (2019, 2020, 2020, 2022),
+                       "the last year twice": (2019, 2022, 2022), "the last year twice alone": (2022, 2022),
+                       "the last year missing": (2019, 2020, 2021), "two years missing at last": (2019, 2020), "the first year alone": (2019,),
+                       "a year between alone": (2020,), "the year before the last alone": (2021,), "the last year first": (2022, 2019, 2020),
+                       "the last year, then the next": (2019, 2022, 2023), "the last year, then the first": (2022, 2019),
+                       "the last year, then 0": (2022, 0), "the last year, then 65,535": (2019, 2020, 2022, 65535),
+                       "the year before and all": range(2018, 2023), "all and the year after": range(2019, 2024), "the next years": range(2023, 2027),
+                       "20 rising years": range(2003, 2023), "21 rising years": range(2002, 2023), "64 rising years": range(1959, 2023),
+                       "the last year 20 times": [2022] * 20, "the last year 21 times": [2022] * 21, "the last year 64 times": [2022] * 64,
+                       "all years 16 times": [*range(2019, 2023)] * 16, "64 zeros": [0] * 64}.items():
+        yield refused(15, f"a list of {name}", four, ends=tuple(ends))
+    for ends in ((2018,), (2020,), (0,), (65535,), (exchanged(2019),), (2018, 2019), (2019, 2019), (2019, 2020), (2019, 0), (2019, 65535)):
+        yield refused(15, f"a list of {years_text(ends)} for 2019 alone", one, ends=ends)
+    for name, ends in {"21 rising years up to the last": range(2018, 2039), "21 rising years from the first": range(2019, 2040),
+                       "20 years and the last again": [*range(2019, 2039), 2038], "20 years and the first twice": [2019, *range(2019, 2039)],
+                       "20 years, one between twice": sorted([*range(2019, 2039), 2028]), "19 years without the last": range(2019, 2038),
+                       "64 rising years up to the last": range(1975, 2039)}.items():
+        yield refused(15, f"a list of {name}, n 20", twenty, ends=tuple(ends))
+
+
+def period_orders():
+    """15 comes after the numbers of the plan and the dossier, and before 10."""
+    one, two, bad, many = base(run=[]), base(n=2, run=[]), (0,), tuple(range(1999, 2020))
+    for name, ends in (("a bad list", bad), ("21 years", many)):
+        for room in (0, 96, 103, 104):
+            yield refused(15, f"{name}, and a buffer of {room}", one, room, ends=ends)
+    lists = ("a bad list", ROOM, bad), ("21 years and a buffer of 0", 0, many), ("a sound list and a buffer of 0", 0, (2019,))
+    for name, room, ends in lists:
+        for number, data in refused_dossiers():
+            yield refused(number, f"{number} comes before {name}", data, room, ends=ends)
+        for number, fault, wrong in ((12, "a plan cut", b"E"), (14, "a plan with a pair", plan((2019, LITTLE[:1] * 2)))):
+            yield refused(number, f"{fault} comes before {name}", one, room, wrong, ends)
+            yield refused(number, f"{fault} comes before {name}, and a dossier cut", encode(one)[:-1], room, wrong, ends)
+    yield refused(15, "a sound plan, and a bad list", base(run=[PLANNED]), plan=plan((2019, LITTLE)), ends=bad)
+    yield refused(13, "a plan without the year, and a bad list", base(run=[PLANNED]), plan=plan((2020, LITTLE)), ends=bad)
+    yield refused(6, "a wrong second year, and a list of the first", put(two, "YR", {1: 0}, 1), ends=(2019,))
+    yield refused(2, "a year less than n, and a list of those there are", put(one, "HD", {2: 2}), ends=(2019,))
+    yield refused(6, "a year more than n, and a list of all", put(two, "HD", {2: 1}), ends=(2019, 2020))
+    yield refused(15, "a list of the first of two years", two, ends=(2019,))
+    yield refused(1, "no bytes, and a list", b"", ends=(2019,))
+
+
+def period_buffers():
+    """10 counts the issued tonnes, and bytes beyond them stay."""
+    for n, ends in ((1, (2019,)), (2, (2020,)), (2, (2019, 2020)), (3, (2019, 2021))):
+        records = base(n=n, run=[])
+        size = need(records, ends)
+        for room in sorted({0, 64 * n, need(records), size - 8, size - 1}):
+            yield refused(10, f"buffer {room} of {size}, n {n}, ends {years_text(ends)}", records, room, ends=ends)
+        for room in (size, size + 7, size + 8):
+            yield accepted(f"buffer {room} of {size}, n {n}, ends {years_text(ends)}", records, room, ends=ends)
+    yield accepted("the longest buffer, n 2, ends 2019, 2020", base(n=2, run=[]), ROOM, ends=(2019, 2020))
+
+
+def forested(option, *lost, run=(), stocks=None):
+    """Years from 2020 on of 100 ha of E, of which so many units turn into NF in each; the matrix foresees what Option 1 does."""
+    forest = areas(E=100000000)
+    records = opening(option, 2020, len(lost), forest, areas(), matrix(("E", "NF", 24900)), stocks)
+    for number, units in enumerate(lost, 2020):
+        records += year(number, reckoner.days_of(number), table(("E", "E", 100000000 - units), ("E", "NF", units)), table(), *run)
+    return records + [END]
+
+
+def period_kinds():
+    """Periods under each option, by filed stocks, with records and planned years: the report before the issued tonnes is the one without ends."""
+    lost, ends = (1000000, 3500000, 800000), (2020, 2021, 2022)
+    for name, records, listed, figures in (
+            ("Option 1", forested(1, *lost), (), dict(issued=[399, 0, 60], total=459980042)),
+            ("Option 2", forested(2, *lost), (), dict(issued=[399, 0, 60], total=459980042)),
+            ("stock 50,000 of E", forested(1, *lost, stocks=areas(E=MOST_STOCK)), (), dict(issued=[2185, 0, 334], total=2519058297)),
+            ("records of each mark", forested(1, *lost, run=RUN), (), dict(issued=[383, 0, 27], total=410767583)),
+            ("planned years", *planning(forested(2, *lost, run=LITTLE)), dict(issued=[399, 0, 60], total=459908978)),
+            ("a planned year", *planning(forested(1, *lost, run=LITTLE), 2021), dict(issued=[399, 0, 60], total=459908978))):
+        require(report(records, listed, ends) == report(records, listed), f"{name}: another report beside the ends")
+        yield accepted(f"{name}, three periods", records, plan=listed, ends=ends, **figures)
+        yield accepted(f"{name}, no ends", records, plan=listed, **figures | dict(issued=[]))
 
 
 # The calls on a ledger, each with its number
@@ -1594,7 +1790,7 @@ def plan_number(lent_plan):
 
 def paths():
     """The pieces of each dossier that are accepted, and the first one that is refused with its number, if one is; years with the plan lent."""
-    for label, due, data, lent_plan, _, _ in (vector for section in VECTORS for vector in section()):
+    for label, due, data, lent_plan, *_ in (vector for section in VECTORS for vector in section()):
         ledger, taken = reckoner.Ledger(), []
         for piece in cut_up(data):
             step = (piece, lent_plan) if taken else (piece, None)
@@ -1605,7 +1801,7 @@ def paths():
                 break
             taken.append(step)
         else:
-            require(due in (0, 10) or (due == 1 or data.endswith(b"EN")) and len(ledger.years) <= ledger.n, f"{label}: no piece is refused")
+            require(due in (0, 10, 15) or (due == 1 or data.endswith(b"EN")) and len(ledger.years) <= ledger.n, f"{label}: no piece is refused")
             yield taken, None
 
 
@@ -1673,7 +1869,8 @@ VECTORS = (examples, edges, cuts, marks, heads, totals, rows, years, conversions
            stock_amounts, plan_forms, plan_faults, plan_records, plan_cuts, plan_marks, plan_first, planned_places, planned_ends,
            planned_lacking, planned_orders, planned_shares, planned_grams, planned_years, planned_amounts, residue_amounts, residue_roundings,
            residue_limits, residue_cuts, residue_thirds, residue_places, residue_planned, residue_pairs, record_ends, calendar, last_marks,
-           full_buffers, equal_records, nearly_equal, equal_orders, equal_planned)
+           full_buffers, equal_records, nearly_equal, equal_orders, equal_planned, period_issues, period_edges, period_twenty, period_lists,
+           period_faults, period_orders, period_buffers, period_kinds)
 CALLS = (empty_ledger, refused_openings, case_a_ledger, three_years, opened_again, filed_ledgers, bad_plans, planned_pieces, changing_plans,
          equal_pieces, residue_pieces, every_dossier, second_years)
 
@@ -1683,13 +1880,13 @@ def require(holds, what):
         sys.exit(what)
 
 
-def line(label, due, data, lent_plan, room, figures):
-    """The vector's line, which has the number and the figures stated of the last year. An unrounded total that is stated is held to the
-    independent reckoner's alone, for no call reports it."""
+def line(label, due, data, lent_plan, ends, room, figures):
+    """The vector's line, which has the number, the figures stated of the last year, and the tonnes issued at each end. An unrounded total that
+    is stated is held to the independent reckoner's alone, for no call reports it."""
     buffer = bytearray([165] * room)
-    number, ledger = reckoner.reckon(data, buffer, lent_plan)
+    number, ledger = reckoner.reckon(data, buffer, lent_plan, ends)
     require(number == due, f"{label}: {number} where {due} is due")
-    found = dict(zip(FIGURES, ledger.numbers()[-12:]), unrounded=ledger.exact)
+    found = dict(zip(FIGURES, ledger.numbers()[-12:]), unrounded=ledger.exact, issued=ledger.issued(ends) if number == 0 else [])
     for name, figure in figures.items():
         require(found[name] == figure, f"{label}: {name} {found[name]} where {figure} is due")
     words = struct.unpack_from(f">{room // 8}q", buffer) if number == 0 else ()
@@ -1700,9 +1897,9 @@ def sized(data):
     return struct.pack(">I", len(data)) + data
 
 
-def stored(label, dossier, lent_plan, room):
+def stored(label, dossier, lent_plan, ends, room):
     """A vector as the program vectors reads it."""
-    return sized(label.encode("ascii")) + sized(dossier) + sized(lent_plan) + struct.pack(">I", room)
+    return sized(label.encode("ascii")) + sized(dossier) + sized(lent_plan) + struct.pack(f">I{len(ends)}HI", len(ends), *ends, room)
 
 
 def vector_files():
@@ -1710,7 +1907,8 @@ def vector_files():
     labels = [vector.label for vector in vectors]
     require(len(labels) == len(set(labels)), f"twice: {[label for label in labels if labels.count(label) > 1]}")
     require(max(map(len, labels)) <= 100, "a label has more than 100 bytes")
-    data = b"".join(stored(label, dossier, lent_plan, room) for label, _, dossier, lent_plan, room, _ in vectors)
+    require(max(len(vector.ends) for vector in vectors) <= 64, "a list has more than 64 ends")
+    data = b"".join(stored(label, dossier, lent_plan, ends, room) for label, _, dossier, lent_plan, ends, room, _ in vectors)
     return data, "".join(line(*vector) for vector in vectors).encode()
 
 
@@ -1724,8 +1922,9 @@ def call_files():
     return data + lent(b"Y", encode(base()))[:-1], text.encode()
 
 
-def stored_vectors(data, lines, plans=True):
-    """The vectors that the program vectors reads, each with its line of those that it writes; before version 2.2 it read no plans."""
+def stored_vectors(data, lines, plans=True, ends=True):
+    """The vectors that the program vectors reads, each with its line of those that it writes; before version 2.2 it read no plans, before
+    version 3.2 no ends."""
     at = 0
 
     def length():
@@ -1739,13 +1938,19 @@ def stored_vectors(data, lines, plans=True):
         at += n
         return data[at - n:at]
 
+    def years():
+        nonlocal at
+        n = length()
+        at += 2 * n
+        return struct.unpack(f">{n}H", data[at - 2 * n:at])
+
     for due in lines:
-        yield piece().decode("ascii"), piece(), piece() if plans else b"", length(), due
+        yield piece().decode("ascii"), piece(), piece() if plans else b"", years() if ends else (), length(), due
     require(at == len(data), "there is not a line for each vector")
 
 
 def try_call(call, slices, label, room, due):
-    """One vector: the line due, and after a refusal the buffer as it was."""
+    """One vector, of whose slices each has its length: the line due, and after a refusal the buffer as it was."""
     old = bytes([165] * (room + 8))
     buffer = ctypes.create_string_buffer(old, len(old))
     lent_slices = [part for data in slices for part in (data, len(data))]
@@ -1757,18 +1962,21 @@ def try_call(call, slices, label, room, due):
 
 
 def try_library(path, name):
-    """Each stored vector by a call in C that takes a plan; those without one by kh_am004_reckon too, if the library has it."""
-    library, tried, without = ctypes.CDLL(path), 0, 0
-    call = reckoning_call(library, name, 3)
-    other = reckoning_call(library, "kh_am004_reckon", 2) if hasattr(library, "kh_am004_reckon") else None
+    """Each stored vector by a call in C that takes a plan and ends; those without ends, or with neither, by the calls for them too, if the
+    library has these."""
+    library, tried = ctypes.CDLL(path), collections.Counter()
+    others = {other: what for other, what in (("kh_am004_reckon_plan", "without ends"), ("kh_am004_reckon", "with neither plan nor ends"))
+              if hasattr(library, other)}
+    calls = [(reckoning_call(library, call, slices), slices - 1) for call, slices in (SLICES | {name: 4}).items() if call == name or call in others]
     data, lines = (ROOT / "crates/vectors/stdin").read_bytes(), (ROOT / "crates/vectors/stdout").read_text().splitlines()
-    for label, dossier, lent_plan, room, due in stored_vectors(data, lines):
-        try_call(call, (dossier, lent_plan), label, room, due)
-        tried += 1
-        if other and not lent_plan:
-            try_call(other, (dossier,), label, room, due)
-            without += 1
-    print(f"{name} of {path} answers each of the {tried} stored vectors as is due" + f", kh_am004_reckon the {without} without a plan" * bool(other))
+    for label, dossier, lent_plan, ends, room, due in stored_vectors(data, lines):
+        slices = dossier, lent_plan, lent_ends(ends)
+        for call, given in calls:
+            if not any(map(len, slices[given:])):
+                try_call(call, slices[:given], label, room, due)
+                tried[call.__name__] += 1
+    print(f"{name} of {path} answers each of the {tried[name]} stored vectors as is due"
+          + "".join(f", {other} the {tried[other]} {what}" for other, what in others.items()))
 
 
 def main():
