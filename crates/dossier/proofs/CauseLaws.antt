@@ -58,7 +58,7 @@ not-listed n l t h = rw (eq-eqb n n refl) at (passes (λ m. cond (eqb m n) false
 abbrev pub planCauses : List ℕ
 planCauses = planNotOfForm ∷ recordRepeated ∷ []
 
--- ---- the causes of a dossier: those of its opening and of its years, which are all of the table but planNotOfForm and the buffer's
+-- ---- the causes of a dossier: those of its opening and of its years, which are all of the table but planNotOfForm, the list's and the buffer's
 abbrev pub dossierCauses : List ℕ
 dossierCauses = openingCauses ++ yearCauses
 

@@ -6,7 +6,7 @@ use mathlib.Core.Bool.{Bool, true, false}
 use mathlib.Core.List.{List, [], _∷_, map}
 use native.Mathlib.Omega.{arith}
 use lib.Dec.{eqb}
-use lib.IntN.{pos, _+ℤ_}
+use lib.IntN.{ℤ, pos, _+ℤ_}
 use lib.Signed.{mag}
 use lib.ListN.{length, getD, set}
 use lib.Seq.{getD-set-same, getD-set-other}
@@ -18,7 +18,7 @@ use Rattle.arithmetic.proofs.IntegerSums.{sumℤ-next, sumℤ-mag}
 use Rattle.classes.specs.declared.Grams.{Grams}
 use Rattle.classes.specs.Ranges.{greatestFigure}
 use Rattle.figures.specs.declared.Figures.{Figures}
-use Rattle.periods.specs.Periods.{runningTotal, creditedIn, totalsAt}
+use Rattle.periods.specs.Periods.{runningTotal, creditedIn}
 use Rattle.periods.specs.Ranges.{SmallYears, keptAt, Kept}
 
 -- no running total leaves 63 bits
@@ -45,11 +45,11 @@ module _ (figures : List Figures) (totals : List Grams) (y : ℕ) (kept : Kept y
           let other = eqb-false z (y + 1) f in
           ap (λ (g : Grams). g .0) (getD-set-other totals (y + 1) z next (record { 0 = pos 0 }) other) ∙ kept .at z (omega (arith, other))
 
--- the running totals at ends within the years
-pub kept-ends : (k first : ℕ) (figures : List Figures) (totals : List Grams) → Kept k figures totals → (ends : List ℕ)
-    → ((i : ℕ) → i < length ends → (first ≤ getD ends i 0) × (getD ends i 0 < first + k))
-    → map (λ (end : ℕ). keptAt totals (end + 1 - first)) ends ≡ totalsAt first (creditedIn figures) ends
-kept-ends k first figures totals kept [] inside = refl
-kept-ends k first figures totals kept (end ∷ ends) inside =
+-- totals that are the same after each of the years are the same at ends within them
+pub totals-same : (first n : ℕ) (f g : ℕ → ℤ) → ((y : ℕ) → y ≤ n → f y ≡ g y) → (ends : List ℕ)
+    → ((i : ℕ) → i < length ends → (first ≤ getD ends i 0) × (getD ends i 0 < first + n))
+    → map (λ (end : ℕ). f (end + 1 - first)) ends ≡ map (λ (end : ℕ). g (end + 1 - first)) ends
+totals-same first n f g same [] inside = refl
+totals-same first n f g same (end ∷ ends) inside =
     let (later, early) = inside 0 (omega arith) in
-    rw (kept .at (end + 1 - first) (omega arith), kept-ends k first figures totals kept ends (λ i h. inside (suc i) (omega arith)))
+    rw (same (end + 1 - first) (omega arith), totals-same first n f g same ends (λ i h. inside (suc i) (omega arith)))

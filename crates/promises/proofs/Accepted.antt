@@ -1,7 +1,7 @@
 -- Accepted exactly when well formed and with a buffer long enough, of each call.
 -- Assumes nothing.
 use Prim.Native.Nat.{ℕ, _+_, _*_, _≤_}
-use mathlib.Core.Path.{_≡_, refl}
+use mathlib.Core.Path.{_≡_, refl, _∙_, sym}
 use mathlib.Core.Logic.{_↔_, Iff·symm}
 use mathlib.Core.Option.{Option}
 use mathlib.Core.List.{List}
@@ -16,6 +16,7 @@ use Rattle.dossier.specs.Claims.{numberOf}
 use Rattle.dossier.specs.Judging.{openingPiece, yearPiece}
 use Rattle.dossier.specs.JudgingPlan.{under}
 use Rattle.dossier.proofs.Numbers.{opening-zero, year-zero}
+use Rattle.periods.specs.Periods.{EndsInRange}
 use Rattle.reckoner.specs.declared.Ledger.{Ledger}
 use Rattle.reckoner.specs.Ledger.{dueOf}
 use Rattle.reckoner.specs.Calls.{answerNumber, openJudged, openCall, yearJudged, yearCall, HandedBack, reckonNumber}
@@ -43,12 +44,13 @@ unfolding yearCall
 year-when {l} k piece plan b bp =
     rw (year-number l (under plan (λ p. yearPiece (dueOf p l)) piece)) (Iff·symm (year-zero (λ p. dueOf p l) (λ p lent. due-kept p lent l (handed-kept k)) piece plan b bp))
 
-reckoning-when : (s plan : List ℕ) → Bytes s → Bytes plan → (size : ℕ)
-    → (reckonNumber s plan size ≡ 0) ↔ ((p : Option Plan) × WellFormedPlan p plan × ((n : ℕ) × WellFormedYears n p s × (64 * n + 32 ≤ size)))
-reckoning-when s plan b bp size =
-    let x = number-zero s plan b bp size in (
-      (λ h. let (p, w, (d, r, e, enough)) = x .1 h in (p, w, (length (d .years), (d, r, e, refl), omega (arith, r .count, enough)))),
-      λ (p, w, (n, (d, r, e, count), enough)). x .0 (p, w, (d, r, e, omega (arith, r .count, count, enough))),
+reckoning-when : (s plan ends : List ℕ) → Bytes s → Bytes plan → (size : ℕ)
+    → (reckonNumber s plan ends size ≡ 0) ↔ ((p : Option Plan) × WellFormedPlan p plan
+    × ((first : ℕ) × (n : ℕ) × WellFormedYears first n p s × EndsInRange first n ends × (64 * n + 32 + 8 * length ends ≤ size)))
+reckoning-when s plan ends b bp size =
+    let x = number-zero s plan ends b bp size in (
+      (λ h. let (p, w, (d, r, e, fit, enough)) = x .1 h in (p, w, (d .opening .head .firstYear, d .opening .head .years, (d, r, e, refl, r .count), fit, enough))),
+      λ (p, w, (first, n, (d, r, e, since, count), fit, enough)). x .0 (p, w, (d, r, e, rw (since, sym (r .count) ∙ count) fit, omega (arith, r .count, count, enough))),
     )
 
 pub accepted-when : AcceptedWhen

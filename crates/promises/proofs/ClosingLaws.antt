@@ -1,25 +1,31 @@
 -- The bytes that closing writes, read back.
 -- Assumes nothing.
-use Prim.Native.Nat.{ℕ, zero, suc, _+_, _*_, _^_, _≤_, _<_}
+use Prim.Native.Nat.{ℕ, zero, suc, _+_, _-_, _*_, _^_, _≤_, _<_}
 use mathlib.Core.Path.{_≡_, refl, _∙_, ap, sym, subst}
+use mathlib.Core.Bool.{true}
 use mathlib.Core.List.{List, [], _∷_, _++_, append-assoc}
 use native.Mathlib.Omega.{arith}
 use lib.IntN.{ℤ, pos}
 use lib.Signed.{mag}
 use lib.ListN.{length, take, drop, getD, length-append, List·getD-append}
-use lib.Seq.{length-take-le, split-at, getD-take, getD-append-add}
-use borrow.Author.Tests.{le-ltb}
+use lib.Seq.{length-take-le, split-at, take-at, getD-take, getD-append-add}
 use Rattle.figures.specs.declared.Figures.{Figures}
 use Rattle.figures.specs.Figures.{tonnesOf, noFigures}
 use Rattle.figures.proofs.FiguresLaws.{FiguresSmall, tonnes-le}
-use Rattle.wire.specs.Signed.{written, figureAt}
-use Rattle.wire.proofs.SignedLaws.{written-figure}
+use Rattle.wire.specs.Signed.{figuresBytes, written, figureAt}
+use Rattle.wire.proofs.SignedLaws.{length-figures, figures-append, written-figure}
 use Rattle.report.specs.Report.{eight, eights, closing, reported}
 use Rattle.report.proofs.ReportLaws.{length-years}
 use Rattle.reckoner.specs.declared.Ledger.{Ledger}
-use Rattle.reckoner.specs.Ledger.{report}
-use Rattle.reckoner.specs.Calls.{closedBuffer}
+use Rattle.periods.specs.Periods.{creditedIn, issuedAfter, totalsAt, issuedTonnes}
+use Rattle.periods.specs.Ranges.{SmallYears}
+use Rattle.periods.proofs.EndsLaws.{fit-inside}
+use Rattle.periods.proofs.RunningLaws.{running-fits}
+use Rattle.periods.proofs.IssuedLaws.{issued-now, count-issued}
+use Rattle.reckoner.specs.Ledger.{firstYear, report}
+use Rattle.reckoner.specs.Calls.{periodsReport, periodsBuffer}
 use Rattle.reckoner.proofs.Invariant.{LedgerKept}
+use Rattle.reckoner.proofs.CloseLaws.{sound, years-small, report-count, buffer-is}
 
 -- ---- every number of the report fits its eight bytes
 abbrev Fit : List ℤ → Type 0
@@ -65,6 +71,20 @@ eights-at (f ∷ fs) rest (suc k) j h q =
     let e : 8 * suc k + j ≡ 8 + (8 * k + j) = omega arith in
     rw (append-assoc (eight f) (eights fs) rest, e) (getD-append-add (eight f) (eights fs ++ rest) (8 * k + j) (pos 0) ∙ eights-at fs rest k j (omega arith) q)
 
+-- running totals within the years fit, and so do the tonnes issued at them
+fit-totals : (k first : ℕ) (figures : List Figures) → SmallYears k figures → (ends : List ℕ)
+    → ((i : ℕ) → i < length ends → (first ≤ getD ends i 0) × (getD ends i 0 < first + k)) → Fit (totalsAt first (creditedIn figures) ends)
+fit-totals k first figures small [] inside = tt
+fit-totals k first figures small (end ∷ ends) inside =
+    let (later, early) = inside 0 (omega arith) in
+    (running-fits k figures small (end + 1 - first) (omega arith), fit-totals k first figures small ends (λ i q. inside (suc i) (omega arith)))
+
+fit-issued : (before : ℕ) (totals : List ℤ) → Fit totals → Fit (issuedAfter (pos before) totals)
+unfolding issuedAfter
+fit-issued before [] h = tt
+fit-issued before (total ∷ totals) (small, rest) =
+    rw (issued-now before (tonnesOf total) total refl) (omega (arith, tonnes-le total), fit-issued (before + (tonnesOf total - before)) totals rest)
+
 -- ---- the report of a ledger that the calls handed back
 module _ (l : Ledger) (kept : LedgerKept l) where
   few : length (take (l .given) (l .figures)) ≡ l .given
@@ -84,10 +104,6 @@ module _ (l : Ledger) (kept : LedgerKept l) where
   unfolding years
   count = length-years (l .given) (l .figures) (omega (arith, kept .count, kept .twenty))
 
-  pub report-count : length (report l) ≡ 8 * l .given + 4
-  unfolding last
-  report-count = rw (report-is, length-append) (omega (arith, count))
-
   years-fit : Fit years
   unfolding years
   years-fit = fit-eights (take (l .given) (l .figures)) (λ m r.
@@ -100,29 +116,54 @@ module _ (l : Ledger) (kept : LedgerKept l) where
       (omega (arith, kept .total, kept .count)) (omega (arith, tonnes-le (l .state .total .0), kept .total, kept .count))
       (omega (arith, kept .project)) (omega (arith, kept .belt))
 
-  -- ---- written into a buffer long enough
-  module _ (buffer : List ℕ) (h : 64 * l .given + 32 ≤ length buffer) where
-    written-is : closedBuffer l buffer ≡ written (report l) buffer
-    unfolding closedBuffer
-    written-is = rw (le-ltb (length buffer) (64 * l .given + 32) h)
-
-    -- its i-th number is read back from its eight bytes
-    pub report-back : (i : ℕ) → i < length (report l) → figureAt (closedBuffer l buffer) (8 * i) ≡ getD (report l) i (pos 0)
-    report-back i q = rw written-is (written-at (report l) (rw report-is (fit-append years last years-fit last-fit)) buffer i q)
-
-    pub year-figure : (k j : ℕ) → k < l .given → j < 8 → figureAt (closedBuffer l buffer) (64 * k + 8 * j) ≡ getD (eight (getD (l .figures) k noFigures)) j (pos 0)
+  -- ---- bytes in which the report stands: each of its numbers is read back
+  module _ (closed : List ℕ) (back : (i : ℕ) → i < length (report l) → figureAt closed (8 * i) ≡ getD (report l) i (pos 0)) where
+    pub year-figure : (k j : ℕ) → k < l .given → j < 8 → figureAt closed (64 * k + 8 * j) ≡ getD (eight (getD (l .figures) k noFigures)) j (pos 0)
     unfolding years
     year-figure k j hk hj =
         let e : 8 * (8 * k + j) ≡ 64 * k + 8 * j = omega arith in
-        ap (figureAt (closedBuffer l buffer)) (sym e) ∙ report-back (8 * k + j) (omega (arith, report-count)) ∙ ap (λ (zs : List ℤ). getD zs (8 * k + j) (pos 0)) report-is
+        ap (figureAt closed) (sym e) ∙ back (8 * k + j) (omega (arith, report-count l kept)) ∙ ap (λ (zs : List ℤ). getD zs (8 * k + j) (pos 0)) report-is
         ∙ eights-at (take (l .given) (l .figures)) last k j (omega (arith, few)) hj
         ∙ ap (λ (f : Figures). getD (eight f) j (pos 0)) (getD-take (l .given) (l .figures) k noFigures hk)
 
     -- total, tonnes, project balance, belt balance
     pub last-figure : (j : ℕ) → j < 4
-        → figureAt (closedBuffer l buffer) (64 * l .given + 8 * j) ≡ getD (closing (l .state .total .0) (l .state .project .balance .0) (l .state .belt .balance .0)) j (pos 0)
+        → figureAt closed (64 * l .given + 8 * j) ≡ getD (closing (l .state .total .0) (l .state .project .balance .0) (l .state .belt .balance .0)) j (pos 0)
     unfolding last
     last-figure j hj =
         let e : 8 * (length years + j) ≡ 64 * l .given + 8 * j = omega (arith, count) in
-        ap (figureAt (closedBuffer l buffer)) (sym e) ∙ report-back (length years + j) (omega (arith, report-count, count))
+        ap (figureAt closed) (sym e) ∙ back (length years + j) (omega (arith, report-count l kept, count))
         ∙ ap (λ (zs : List ℤ). getD zs (length years + j) (pos 0)) report-is ∙ getD-append-add years last j (pos 0)
+
+  -- ---- written into a buffer long enough, with a sound list
+  module _ (ends buffer : List ℕ) (fit : sound l ends ≡ true) (h : 64 * l .given + 32 + 8 * length ends ≤ length buffer) where
+    issued-fit : Fit (issuedTonnes (firstYear l) (creditedIn (l .figures)) ends)
+    issued-fit = fit-issued 0 _ (fit-totals (l .given) (firstYear l) (l .figures) (years-small l kept) ends (fit-inside _ _ ends fit))
+
+    numbers-fit : Fit (periodsReport l ends)
+    numbers-fit = fit-append (report l) _ (rw report-is (fit-append years last years-fit last-fit)) issued-fit
+
+    -- the report's bytes stand first, whatever the list
+    pub report-first : take (64 * l .given + 32) (periodsBuffer l ends buffer) ≡ figuresBytes (report l)
+    unfolding written
+    report-first =
+        let issued = issuedTonnes (firstYear l) (creditedIn (l .figures)) ends in
+        rw (buffer-is l ends buffer fit h, figures-append (report l) issued, append-assoc (figuresBytes (report l)) (figuresBytes issued) (drop (8 * length (periodsReport l ends)) buffer))
+        (take-at (figuresBytes (report l)) _ (64 * l .given + 32) (length-figures (report l) ∙ omega (arith, report-count l kept)))
+
+    -- each number is read back from its eight bytes
+    pub numbers-back : (i : ℕ) → i < length (periodsReport l ends) → figureAt (periodsBuffer l ends buffer) (8 * i) ≡ getD (periodsReport l ends) i (pos 0)
+    numbers-back i q = rw (buffer-is l ends buffer fit h) (written-at (periodsReport l ends) numbers-fit buffer i q)
+
+    -- those of the report, and after them the tonnes issued
+    pub report-back : (i : ℕ) → i < length (report l) → figureAt (periodsBuffer l ends buffer) (8 * i) ≡ getD (report l) i (pos 0)
+    report-back i q = numbers-back i (simp length-append (omega arith)) ∙ List·getD-append (report l) _ (pos 0) i q
+
+    pub issued-back : (i : ℕ) → i < length ends
+        → figureAt (periodsBuffer l ends buffer) (64 * l .given + 32 + 8 * i) ≡ getD (issuedTonnes (firstYear l) (creditedIn (l .figures)) ends) i (pos 0)
+    issued-back i q =
+        let issued = issuedTonnes (firstYear l) (creditedIn (l .figures)) ends in
+        let e : 8 * (length (report l) + i) ≡ 64 * l .given + 32 + 8 * i = omega (arith, report-count l kept) in
+        ap (figureAt (periodsBuffer l ends buffer)) (sym e)
+        ∙ numbers-back (length (report l) + i) (simp length-append (omega (arith, count-issued (firstYear l) (creditedIn (l .figures)) ends)))
+        ∙ getD-append-add (report l) issued i (pos 0)

@@ -2,13 +2,14 @@
 -- Assumes nothing.
 use Prim.Native.Nat.{ℕ, _+_, _*_, _≤_, _<_}
 use mathlib.Core.Path.{_≡_, refl, _∙_, ap, sym}
-use mathlib.Core.List.{List}
+use mathlib.Core.List.{List, []}
 use native.Mathlib.Nat.{zero-add}
 use native.Mathlib.Omega.{arith}
 use lib.IntN.{pos}
 use lib.ListN.{length, getD, take}
 use lib.Seq.{take-all}
 use Rattle.arithmetic.specs.Sum.{sum}
+use Rattle.arithmetic.proofs.IntegerSums.{sumℤ-cong}
 use Rattle.classes.specs.Classes.{greatestIn}
 use Rattle.classes.specs.Matrix.{RowsSum}
 use Rattle.classes.proofs.FactorLaws.{greatest-factor}
@@ -23,28 +24,29 @@ use Rattle.assurance.proofs.YearLaws.{Reckoned, opened-reckoned}
 use Rattle.wire.specs.Bytes.{Bytes}
 use Rattle.wire.specs.Signed.{figureAt}
 use Rattle.report.specs.Report.{eight, closing}
+use Rattle.periods.specs.Periods.{endsFit, runningTotal}
 use Rattle.dossier.specs.Records.{Opening, OpeningInRange, termsOf, stateOf, emptyTerms, emptyState, Settled, settled}
 use Rattle.dossier.specs.Reader.{Judged, refused, accepted}
 use Rattle.dossier.specs.Judging.{openingPiece}
 use Rattle.reckoner.specs.declared.Ledger.{Ledger}
-use Rattle.reckoner.specs.Ledger.{newLedger, emptyLedger, openedLedger, givenYears}
+use Rattle.reckoner.specs.Ledger.{newLedger, emptyLedger, openedLedger, givenYears, report}
 use Rattle.reckoner.specs.Calls.{openJudged, openCall, closedBuffer, opened}
 use Rattle.reckoner.proofs.RegionKept.{units-total}
 use Rattle.reckoner.proofs.Invariant.{LedgerKept, open-either, open-kept, in-use-rows, YearsTaken, years-kept}
 use Rattle.reckoner.proofs.Numbers.{given-count}
 use Rattle.promises.specs.CallList.{Call, afterCalls, ledgerAfter, LentBytes, acceptedYears, yearsAfter, standingCalls, standing}
-use Rattle.promises.specs.Reported.{yearsFigures, RegionReported, Reported}
+use Rattle.promises.specs.Reported.{yearsFigures, creditedAt, RegionReported, Reported}
 use Rattle.promises.specs.Lists.{settledBy, ClosingAssured, ListAssured}
-use Rattle.promises.proofs.ClosingLaws.{year-figure, last-figure}
+use Rattle.promises.proofs.ClosingLaws.{year-figure, last-figure, report-back}
 use Rattle.promises.proofs.YearsLaws.{own-figures, given-total, from-nothing, given-project, given-belt, years-reckoned}
 use Rattle.promises.proofs.CallsLaws.{calls-handed, brought-when, gives, stands, standing-count}
 
 -- ---- a ledger as an opening hands it back
-record Opened (l : Ledger) : Type 0 where
-  none : l .given ≡ 0
-  nothing : l .state .total .0 ≡ pos 0
-  rows : 1 ≤ l .state .left → RowsSum (l .terms .matrix)
-  reckoned : Reckoned (greatestIn (l .terms .stocks)) 0 0 (l .terms .start .0) (l .terms .beltstart .0) (l .state) (openedᶠ (l .state))
+pub record Opened (l : Ledger) : Type 0 where
+  pub none : l .given ≡ 0
+  pub nothing : l .state .total .0 ≡ pos 0
+  pub rows : 1 ≤ l .state .left → RowsSum (l .terms .matrix)
+  pub reckoned : Reckoned (greatestIn (l .terms .stocks)) 0 0 (l .terms .start .0) (l .terms .beltstart .0) (l .state) (openedᶠ (l .state))
 
 opened-empty : Opened emptyLedger
 unfolding emptyLedger newLedger emptyTerms
@@ -55,7 +57,7 @@ opened-empty = record {
   reckoned = unfold emptyState openedRegion sum in opened-reckoned _ emptyState refl refl refl;
 }
 
-opened-opening : (o : Opening) → OpeningInRange o → Opened (openedLedger o)
+pub opened-opening : (o : Opening) → OpeningInRange o → Opened (openedLedger o)
 unfolding openedLedger newLedger termsOf
 opened-opening o h = record {
   none = refl;
@@ -69,7 +71,7 @@ opening-opened : (piece : List ℕ) → Bytes piece → Opened (openCall piece .
 opening-opened = open-either Opened opened-empty opened-opening
 
 -- what it settled
-abbrev settledIn : Ledger → Settled
+abbrev pub settledIn : Ledger → Settled
 settledIn l = record { terms = l .terms; state = l .state }
 
 pub opening-settled : (piece : List ℕ) → settledIn (openCall piece .ledger) ≡ settledBy (openingPiece piece)
@@ -97,14 +99,12 @@ module _ (l : Ledger) (o : Opened l) (k : LedgerKept l) (ys : List Year) (inRang
   assured : Assured (greatestIn (l .terms .stocks)) (length ys) (recordCount ys) (l .terms .start .0) (l .terms .beltstart .0) (after .state) afterᶠ
   assured = reckoned-assured _ _ _ _ _ _ _ (simp zero-add at (years-reckoned _ ys l (greatest-factor (l .terms .stocks)) (o .rows) inRange 0 0 _ _ _ (o .reckoned)))
 
-  module _ (buffer : List ℕ) (h : 64 * length ys + 32 ≤ length buffer) where
-    abbrev closed : List ℕ
-    closed = closedBuffer after buffer
-
+  -- bytes in which its report stands
+  module _ (closed : List ℕ) (back : (i : ℕ) → i < length (report after) → figureAt closed (8 * i) ≡ getD (report after) i (pos 0)) where
     -- total, tonnes and balances, at their places
     last : (j : ℕ) → j < 4
         → figureAt closed (64 * length ys + 8 * j) ≡ getD (closing (after .state .total .0) (after .state .project .balance .0) (after .state .belt .balance .0)) j (pos 0)
-    last j hj = rw (← count-is) (last-figure after kept-is buffer (omega (arith, count-is)) j hj)
+    last j hj = rw (← count-is) (last-figure after kept-is closed back j hj)
 
     total-back : figureAt closed (64 * length ys) ≡ after .state .total .0
     total-back = let e : 64 * length ys + 8 * 0 ≡ 64 * length ys = omega arith in ap (figureAt closed) (sym e) ∙ last 0 (omega arith)
@@ -121,18 +121,26 @@ module _ (l : Ledger) (o : Opened l) (k : LedgerKept l) (ys : List Year) (inRang
     year-is i j hi hj =
         let e : l .given + i ≡ i = omega (arith, o .none) in
         let own = ap (λ (m : ℕ). getD (after .figures) m noFigures) (sym e) ∙ own-figures ys l (omega (arith, o .none, k .twenty, kept-is .count, count-is)) i hi in
-        year-figure after kept-is buffer (omega (arith, count-is)) i j (omega (arith, count-is)) hj
+        year-figure after kept-is closed back i j (omega (arith, count-is)) hj
         ∙ ap (λ (f : Figures). getD (eight f) j (pos 0)) own
 
-    reported : Reported (settledIn l) ys closed
+    -- the total is the sum of the credited figures in the same bytes
+    total-is : figureAt closed (64 * length ys) ≡ runningTotal (creditedAt closed) (length ys)
+    total-is = total-back ∙ given-total ys l ∙ from-nothing _ _ (o .nothing) ∙ sumℤ-cong (length ys) _ _ (λ i hi. sym (year-is i 7 hi (omega arith)))
+
+    pub reported : Reported (settledIn l) ys closed
     reported = record {
       figures = year-is;
-      total = total-back ∙ given-total ys l ∙ from-nothing _ _ (o .nothing);
+      total = total-is;
       tonnes = rw total-back (last 1 (omega arith));
       assured = rw total-back (assured .total);
       project = rw (← given-project ys l) project-reported;
       belt = rw (← given-belt ys l) belt-reported;
     }
+
+  -- closed with a buffer long enough, it stands there
+  closing-back : (buffer : List ℕ) → 64 * length ys + 32 ≤ length buffer → (i : ℕ) → i < length (report after) → figureAt (closedBuffer after buffer) (8 * i) ≡ getD (report after) i (pos 0)
+  closing-back buffer h = report-back after kept-is [] buffer (unfold endsFit in refl) (omega (arith, count-is))
 
 -- ---- after any list of calls
 module _ (opening : List ℕ) (b : Bytes opening) where
@@ -145,7 +153,7 @@ module _ (opening : List ℕ) (b : Bytes opening) where
       record {
         handed = calls-handed calls _ c (opened opening b);
         count = rw (g .ledger) (count-is _ o k _ (g .inRange));
-        closed = λ buffer h. rw (g .ledger, ← opening-settled opening) (reported _ o k _ (g .inRange) buffer h);
+        closed = λ buffer h. rw (g .ledger, ← opening-settled opening) (reported _ o k _ (g .inRange) _ (closing-back _ o k _ (g .inRange) buffer h));
       }
 
   -- the calls that stand come to the same

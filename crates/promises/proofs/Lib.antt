@@ -1,4 +1,5 @@
 pub mod ClosingLaws
+pub mod PeriodsLaws
 pub mod YearsLaws
 pub mod CallsLaws
 pub mod Demand3

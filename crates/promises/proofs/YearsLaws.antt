@@ -7,17 +7,21 @@ use native.Mathlib.Omega.{arith}
 use lib.IntN.{ℤ, pos, _+ℤ_, +ℤ-assoc, +ℤ-idl, +ℤ-idr}
 use lib.ListN.{length, getD, length-set}
 use lib.Seq.{getD-set-same, getD-set-other}
+use Rattle.arithmetic.specs.Sum.{sumℤ}
+use Rattle.arithmetic.proofs.IntegerSums.{sumℤ-first}
 use Rattle.classes.specs.Classes.{emissionFactor}
 use Rattle.classes.specs.Matrix.{RowsSum}
+use Rattle.projection.specs.Projection.{projectedRegion}
 use Rattle.figures.specs.Figures.{noFigures}
 use Rattle.figures.specs.Year.{Year}
 use Rattle.figures.specs.Reckoning.{yearFigures, recordCount, afterFigures, afterYear}
 use Rattle.assurance.specs.Unrounded.{Unrounded, afterYearsᶠ}
 use Rattle.assurance.proofs.YearLaws.{Reckoned, year-reckoned}
+use Rattle.periods.specs.Periods.{runningTotal, creditedIn}
 use Rattle.reckoner.specs.declared.Ledger.{Ledger}
 use Rattle.reckoner.specs.Ledger.{dueOf, givenYear, givenYears}
 use Rattle.reckoner.proofs.Invariant.{YearsTaken}
-use Rattle.promises.specs.Reported.{yearsFigures, periodTotal, projectedYears}
+use Rattle.promises.specs.Reported.{yearsFigures, projectedYears}
 
 -- a year changes no terms
 pub given-terms : (ys : List Year) (l : Ledger) → givenYears ys l .terms ≡ l .terms
@@ -42,11 +46,16 @@ own-figures (y ∷ ys) l h (suc k) q =
     let e : l .given + 1 + k ≡ l .given + suc k = omega arith in
     ap (λ (i : ℕ). getD (givenYears ys (givenYear y l) .figures) i noFigures) (sym e) ∙ own-figures ys (givenYear y l) (simp length-set (omega arith)) k (omega arith)
 
--- the total is the sum of credited
-pub given-total : (ys : List Year) (l : Ledger) → givenYears ys l .state .total .0 ≡ l .state .total .0 +ℤ periodTotal (yearsFigures (l .terms) (l .state .project) (l .state .belt) ys)
-unfolding givenYears givenYear afterYear afterFigures yearsFigures periodTotal
-given-total [] l = sym (+ℤ-idr _)
-given-total (y ∷ ys) l = given-total ys (givenYear y l) ∙ +ℤ-assoc (l .state .total .0) (yearFigures (l .terms) y (l .state .project) (l .state .belt) .credited .0) _
+-- the total is the running total of all of them
+pub given-total : (ys : List Year) (l : Ledger)
+    → givenYears ys l .state .total .0 ≡ l .state .total .0 +ℤ runningTotal (creditedIn (yearsFigures (l .terms) (l .state .project) (l .state .belt) ys)) (length ys)
+unfolding givenYears givenYear afterYear afterFigures yearsFigures
+given-total [] l = unfold sumℤ in sym (+ℤ-idr _)
+given-total (y ∷ ys) l =
+    let f = yearFigures (l .terms) y (l .state .project) (l .state .belt) in
+    let fs = yearsFigures (l .terms) (projectedRegion (l .terms .matrix) (l .state .project)) (projectedRegion (l .terms .matrix) (l .state .belt)) ys in
+    given-total ys (givenYear y l) ∙ +ℤ-assoc (l .state .total .0) (f .credited .0) _
+    ∙ ap (λ (z : ℤ). l .state .total .0 +ℤ z) (sym (sumℤ-first (length ys) (creditedIn (f ∷ fs))))
 
 pub from-nothing : (z x : ℤ) → z ≡ pos 0 → z +ℤ x ≡ x
 from-nothing z x e = rw e (+ℤ-idl x)

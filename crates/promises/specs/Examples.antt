@@ -48,9 +48,9 @@ caseA = record {
   } ∷ [];
 }
 
--- the whole reckoning of its bytes, with no plan and a buffer of 255 throughout and four bytes longer than the report: a zero that is not written shows
+-- the whole reckoning of its bytes, with no plan, no list and a buffer of 255 throughout and four bytes longer than the report: a zero that is not written shows
 unfoldable pub bufferA : List ℕ
-bufferA = reckonBuffer (dossierBytes caseA) [] (replicate 100 255)
+bufferA = reckonBuffer (dossierBytes caseA) [] [] (replicate 100 255)
 
 -- its sheet, as the document has it
 abbrev sheetA : List ℕ

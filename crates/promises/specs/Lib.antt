@@ -3,6 +3,7 @@ pub mod Refusals
 pub mod Accepted
 pub mod Values
 pub mod Reported
+pub mod Periods
 pub mod Lists
 pub mod Dossiers
 pub mod Examples

@@ -7,11 +7,12 @@ use mathlib.Core.Option.{Option}
 use mathlib.Core.Logic.{_↔_}
 use mathlib.Core.List.{List, [], _∷_}
 use lib.ListN.{length}
-use Rattle.dossier.specs.Causes.{planNotOfForm, recordRepeated, causes, openingCauses, yearCauses, closingCauses, ZeroOr}
+use Rattle.dossier.specs.Causes.{planNotOfForm, recordRepeated, endsWrong, causes, openingCauses, yearCauses, closingCauses, ZeroOr}
 use Rattle.dossier.specs.Plan.{Plan}
-use Rattle.dossier.specs.Records.{WellFormedPlan}
+use Rattle.dossier.specs.Records.{WellFormedYears, WellFormedPlan}
 use Rattle.dossier.specs.Repeated.{PlanRepeats}
 use Rattle.wire.specs.Bytes.{Bytes}
+use Rattle.periods.specs.Periods.{EndsInRange}
 use Rattle.reckoner.specs.declared.Ledger.{Ledger}
 use Rattle.reckoner.specs.Ledger.{emptyLedger}
 use Rattle.reckoner.specs.Calls.{answerNumber, openCall, yearCall, closeCall, closeSays, closedBuffer, reckonNumber, reckonBuffer}
@@ -27,18 +28,22 @@ pub record ByPlan (n : ℕ) (plan : List ℕ) : Type 0 where
   pub unfit : (n ≡ planNotOfForm) ↔ (NotOfForm plan × (PlanRepeats plan → ⊥))
   pub repeats : PlanRepeats plan → n ≡ recordRepeated
 
--- of any bytes, any plan, any ledger and any buffer; a plan's own number by the plan alone, "judged before dossier or piece" (#103), whatever these, the
--- ledger and the buffer are; `yearsheet` lends no plan and a buffer for 20 years, 1,312 bytes, and prints of refused bytes the number alone
+-- of any bytes, any plan, any list of period ends, any ledger and any buffer; a plan's own number by the plan alone, "judged before dossier or piece"
+-- (#103), whatever these, the ledger and the buffer are; the list's "judged after the dossier" (#107): just where plan and dossier are well formed and the
+-- list is not in range for the dossier's years, whatever the buffer is; `yearsheet` lends no plan, no list and a buffer for 20 years, 1,312 bytes, and
+-- prints of refused bytes the number alone
 pub record RefusalsLeave : Type 0 where
   pub opening : (piece : List ℕ) → (answerNumber (openCall piece .answer) ≡ 0 → ⊥) → openCall piece .ledger ≡ emptyLedger
   pub year : (l : Ledger) (piece plan : List ℕ) → (answerNumber (yearCall l piece plan .answer) ≡ 0 → ⊥) → yearCall l piece plan .ledger ≡ l
   pub close : (l : Ledger) (buffer : List ℕ) → (closeSays l (length buffer) .number ≡ 0 → ⊥) → closedBuffer l buffer ≡ buffer
   pub closing : (l : Ledger) (size : ℕ) → closeCall l size .ledger ≡ l
-  pub reckoning : (s plan buffer : List ℕ) → (reckonNumber s plan (length buffer) ≡ 0 → ⊥) → reckonBuffer s plan buffer ≡ buffer
+  pub reckoning : (s plan ends buffer : List ℕ) → (reckonNumber s plan ends (length buffer) ≡ 0 → ⊥) → reckonBuffer s plan ends buffer ≡ buffer
   pub openingNumber : (piece : List ℕ) → ZeroOr openingCauses (answerNumber (openCall piece .answer))
   pub yearNumber : (l : Ledger) (piece plan : List ℕ) → ZeroOr (planNotOfForm ∷ yearCauses) (answerNumber (yearCall l piece plan .answer))
   pub closingNumber : (l : Ledger) (size : ℕ) → ZeroOr closingCauses (closeSays l size .number)
-  pub reckoningNumber : (s plan : List ℕ) (size : ℕ) → ZeroOr causes (reckonNumber s plan size)
+  pub reckoningNumber : (s plan ends : List ℕ) (size : ℕ) → ZeroOr causes (reckonNumber s plan ends size)
   pub yearPlan : (l : Ledger) (piece plan : List ℕ) → Bytes plan → ByPlan (answerNumber (yearCall l piece plan .answer)) plan
-  pub reckoningPlan : (s plan : List ℕ) (size : ℕ) → Bytes plan → ByPlan (reckonNumber s plan size) plan
-  pub printing : (s : List ℕ) → Bytes s → (reckonNumber s [] 1312 ≡ 0 → ⊥) → printout s ≡ refusalOf (reckonNumber s [] 1312)
+  pub reckoningPlan : (s plan ends : List ℕ) (size : ℕ) → Bytes plan → ByPlan (reckonNumber s plan ends size) plan
+  pub reckoningEnds : (s plan ends : List ℕ) (size : ℕ) → Bytes s → Bytes plan
+      → (reckonNumber s plan ends size ≡ endsWrong) ↔ ((p : Option Plan) × WellFormedPlan p plan × ((first : ℕ) × (n : ℕ) × WellFormedYears first n p s × (EndsInRange first n ends → ⊥)))
+  pub printing : (s : List ℕ) → Bytes s → (reckonNumber s [] [] 1312 ≡ 0 → ⊥) → printout s ≡ refusalOf (reckonNumber s [] [] 1312)

@@ -49,6 +49,16 @@ report-count l k = rw length-append (omega (arith, length-years (l .given) (l .f
 abbrev pub sound : Ledger → List ℕ → Bool
 sound l ends = endsFit (firstYear l) (l .given) ends
 
+-- 15 just where the list is not sound, whatever the buffer
+pub periods-fifteen : (l : Ledger) (ends : List ℕ) (size : ℕ) → (periodsSays l ends size .number ≡ endsWrong) ↔ (sound l ends ≡ false)
+unfolding periodsAnswer
+periods-fifteen l ends size = (go (sound l ends) (tooShort (l .given) (length ends) size), λ e. rw e)
+  where
+    go : (b c : Bool) → said (cond b (cond c (Answer.Refused bufferTooShort) Answer.Accepted) (Answer.Refused endsWrong)) (periodsReport l ends) .number ≡ endsWrong → b ≡ false
+    go true true h = absurd (omega arith)
+    go true false h = absurd (omega arith)
+    go false c h = refl
+
 module _ (l : Ledger) (ends buffer : List ℕ) where
   pub periods-wrong : sound l ends ≡ false → (endsWrong ≡ periodsSays l ends (length buffer) .number) × (buffer ≡ periodsBuffer l ends buffer)
   unfolding periodsAnswer periodsBuffer

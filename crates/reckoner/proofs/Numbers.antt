@@ -18,7 +18,7 @@ use Rattle.dossier.specs.Causes.{bufferTooShort, endsWrong, planNotOfForm, caus
 use Rattle.dossier.specs.Reader.{Judged, refused, accepted}
 use Rattle.dossier.specs.Judging.{dossier, openingPiece, yearPiece}
 use Rattle.dossier.specs.JudgingPlan.{lentPlan, under}
-use Rattle.dossier.proofs.CauseLaws.{listed, positive, dossierCauses, dossier-part}
+use Rattle.dossier.proofs.CauseLaws.{listed, part, positive, dossierCauses, dossier-part}
 use Rattle.dossier.proofs.Causes.{openingPiece-causes}
 use Rattle.dossier.proofs.WellFormed.{dossier-accepted, plan-accepted}
 use Rattle.dossier.proofs.UnderLaws.{under-accepted, yearPiece-under-causes, dossier-under-causes, under-first-bytes}
@@ -138,9 +138,7 @@ reckon-numbers s planned ends size = go (under planned dossier s) refl
   where
     last : (n : ℕ) → ZeroOr (endsWrong ∷ closingCauses) n → ZeroOr causes n
     last n (inl e) = inl e
-    last n (inr (inl e)) = inr (rw e (listed endsWrong causes tt))
-    last n (inr (inr (inl e))) = inr (rw e (listed bufferTooShort causes tt))
-    last n (inr (inr (inr e))) = absurd e
+    last n (inr h) = inr (part (endsWrong ∷ closingCauses) causes tt n h)
 
     go : (j : Judged Dossier) → under planned dossier s ≡ j → ZeroOr causes (reckonNumber s planned ends size)
     go (refused n) e = rw (number-refused s planned ends size n e) (inr (dossier-part n (dossier-under-causes planned s n e)))

@@ -13,7 +13,7 @@ use Rattle.wire.specs.Signed.{figuresBytes}
 use Rattle.periods.specs.Periods.{creditedIn, issuedAfter}
 use Rattle.periods.specs.Ranges.{SmallYears, keptAt}
 use Rattle.periods.proofs.EndsLaws.{fit-inside}
-use Rattle.periods.proofs.RunningLaws.{kept-fits, kept-ends}
+use Rattle.periods.proofs.RunningLaws.{kept-fits, totals-same}
 use Rattle.periods.proofs.IssuedLaws.{none-stored, issued-fits, issued-turn, stored-turn, all-issued}
 use Rattle.periods.proofs.write_issued.Statement.{statement}
 use Rattle.periods.proofs.write_issued.Tie as tie
@@ -153,7 +153,7 @@ returns-2 c =
     let t = at-loop .before in
     let given = at-start t .args in
     let done = all-issued _ (given .ends .now) (at-loop .loop .i) _ _ (f .done) (omega arith) (f .rest) in
-    let same = kept-ends _ _ _ _ (t .running-totals .ensures) (given .ends .now) (fit-inside _ _ _ (at-start t .pre .0 .1)) in
+    let same = totals-same (given .first) (given .k) _ _ (t .running-totals .ensures .at) (given .ends .now) (fit-inside _ _ _ (at-start t .pre .0 .1)) in
     f .content ∙ ap (λ (zs : List ℤ). sets (given .buffer .now) (given .at) (figuresBytes zs)) (sym done ∙ ap (issuedAfter (pos 0)) same)
 
 pub write-issued-spec : {M : Type 1} → statement M
