@@ -302,6 +302,13 @@ def method():
     emitted = [dossiers.grams([("CR", fields)]) for fields in crops]
     for figure in [f"{grams:,} g" for grams in (*emitted, *(figures[2] for figures in ledger.years))] + [f"{ledger.total:,} g, {ledger.numbers()[-3]:,} tonnes"]:
         same(f"{figure} of nitrogen-fixing crops", figure in text, True)
+    periods = ROOT / "examples" / "periods.dossier"
+    ends = [int(year) for year in periods.with_suffix(".ends").read_text().split(",")]
+    _, ledger = reckoner.reckon(periods.read_bytes(), bytearray(reckoner.LONGEST_REPORT), ends=ends)
+    issued = [tuple(map(plain, cells)) for cells in fives if cells[0].isdigit() and int(cells[0]) in ends]
+    totals = [sum(figures[-1] for figures in ledger.years[:end + 1 - ledger.first]) for end in ends]
+    tonnes = ledger.issued(ends)
+    same("issued tonnes", issued, [(end, total, total // 10**6, sum(tonnes[:k]), tonnes[k]) for k, (end, total) in enumerate(zip(ends, totals))])
 
 
 def main():

@@ -43,7 +43,7 @@ pub fn read_piece(piece: &mut [u8]) -> bool
 
 // Prints the line of a call: its word, its number and every whole figure of a part of a result; how many bytes the line has.
 pub fn print_call(word: &[u8], n: u8, figures: &[u8]) -> usize
-    requires { ⌜ (length (now word) ≤ 100) × (length (now figures) ≤ 1312) ⌝ }
+    requires { ⌜ (length (now word) ≤ 100) × (length (now figures) ≤ 1472) ⌝ }
     ensures { λ r. ⌜ r ≡ length (callLine (now (word .entry)) n (now (figures .entry))) ⌝ }
 {
     let mut out = io::buffer();

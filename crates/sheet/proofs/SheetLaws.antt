@@ -96,7 +96,7 @@ pub length-refusal : (n : ℕ) → n < 256 → length (refusalOf n) ≤ 4096
 unfolding refusalOf
 length-refusal n h = simp length-append (omega (arith, length-decimal 2 n (omega arith)))
 
-pub length-call : (word : List ℕ) (n : ℕ) (figures : List ℕ) → length word ≤ 100 → n < 256 → length figures ≤ 1312 → length (callLine word n figures) ≤ 4096
+pub length-call : (word : List ℕ) (n : ℕ) (figures : List ℕ) → length word ≤ 100 → n < 256 → length figures ≤ 1472 → length (callLine word n figures) ≤ 4096
 unfolding callLine
 length-call word n figures h g f =
     simp length-append (omega (arith, length-decimal 2 n (omega arith), length-spaced (length figures / 8) figures 0))

@@ -156,7 +156,7 @@ pub fn write_refusal(n: u8, out: &mut [u8; 4096]) -> usize
 
 // The line of a call, for testers: its word, its number and every whole figure of a part of a result; the number of bytes written.
 pub fn write_call(word: &[u8], n: u8, figures: &[u8], out: &mut [u8; 4096]) -> usize
-    requires { ⌜ (length (now word) ≤ 100) × (length (now figures) ≤ 1312) ⌝ }
+    requires { ⌜ (length (now word) ≤ 100) × (length (now figures) ≤ 1472) ⌝ }
     ensures { λ r. ⌜ Written (callLine (now (word .entry)) n (now (figures .entry))) (now (out .entry)) r (now (out .exit)) ⌝ }
 {
     let after_word = put_text(out, 0, word);

@@ -1,12 +1,11 @@
 -- `vectors::print_vector` meets its contract: the figures that are printed stand in the buffer.
 -- Assumes nothing.
-use Prim.Native.Nat.{ℕ, _≤_}
-use mathlib.Core.Path.{_≡_, _∙_, sym}
-use mathlib.Core.List.{List, _++_}
+use mathlib.Core.Path.{_≡_, sym}
+use mathlib.Core.List.{_++_}
 use native.Mathlib.Omega.{arith}
-use lib.ListN.{length, drop, replicate, length-replicate}
+use lib.ListN.{length, drop, replicate}
 use borrow.Author.Needs.{needs}
-use Rattle.console.proofs.LentLaws.{lent, lent-back}
+use Rattle.console.proofs.LentLaws.{lent, lent-of-equal, equal-back}
 use Rattle.vectors.proofs.print_vector.Statement.{statement}
 use Rattle.vectors.proofs.print_vector.Tie as tie
 
@@ -15,25 +14,19 @@ abbrev at-lent : tie.After-result2 → tie.After-result
 at-lent c = c .before .before
 
 abbrev at-start : tie.After-result → tie.Start
-at-start c = c .before .before .before .before
-
-abbrev buffer : List ℕ
-buffer = replicate 1312 165
-
-room-in : (room : ℕ) → room ≤ 1312 → room ≤ length buffer
-room-in room h = omega (arith, length-replicate {A = ℕ} 1312 165)
+at-start c = c .before .before .before .before .before
 
 -- the buffer is lent in part, and comes back whole
-whole : (c : tie.After-result2) → length (c .before .reckon .last .1 .1 .0 ++ drop (at-start (at-lent c) .args .room) buffer) ≡ 1312
+whole : (c : tie.After-result2) → length (c .before .reckon .last .1 .1 .1 .0 ++ drop (at-start (at-lent c) .args .room) (replicate 1472 165)) ≡ 1472
 whole c =
     let (label, room) = at-start (at-lent c) .pre in
-    lent-back _ (c .before .reckon .last .1 .1 .0) buffer (c .result2 .given) (room-in _ room) ∙ length-replicate {A = ℕ} 1312 165
+    equal-back 1472 165 _ (c .before .reckon .last .1 .1 .1 .0) (c .result2 .given) room
 
 array-borrow-prefix-result : tie.Need-array-borrow-prefix-result
 array-borrow-prefix-result c = search needs
 
 slice-aggregate-reckon : tie.Need-slice-aggregate-reckon
-slice-aggregate-reckon c = let (label, room) = at-start c .pre in lent _ _ (room-in _ room)
+slice-aggregate-reckon c = let (label, room) = at-start c .pre in lent _ _ (lent-of-equal 1472 165 _ room)
 
 reckon-requires : tie.Need-reckon-requires
 reckon-requires c κs = search needs

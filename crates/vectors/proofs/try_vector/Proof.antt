@@ -1,37 +1,37 @@
 -- `vectors::try_vector` is safe and ends: each piece is lent as far as it was read.
 -- Assumes nothing.
-use Prim.Native.Nat.{ℕ, _≤_}
-use mathlib.Core.List.{List, _++_}
+use Prim.Native.Nat.{_≤_}
+use mathlib.Core.List.{_++_}
 use native.Mathlib.Omega.{arith}
-use lib.ListN.{length, drop, replicate, length-replicate}
+use lib.ListN.{length, drop, replicate}
 use borrow.Author.Needs.{needs}
 use borrow.Author.Tests.{ltb-false}
-use Rattle.console.proofs.LentLaws.{lent, lent-back}
+use Rattle.console.proofs.LentLaws.{lent, lent-of-equal, equal-back}
 use Rattle.vectors.proofs.try_vector.Statement.{statement}
 use Rattle.vectors.proofs.try_vector.Tie as tie
 
--- the places: the dossier read, from where the whole vector was; and the label read before it
-abbrev at-dossier : tie.Else5 → tie.After-dossier2
+-- the places: the dossier read, from where the whole vector was; the label read before it; and the label's length before that
+abbrev at-dossier : tie.Else6 → tie.After-dossier2
 at-dossier c =
-    let at-plan = c .before .before .before .before in
+    let at-ends = c .before .before .before .before .before in
+    let at-plan = at-ends .before .before .before in
     at-plan .before .before .before
 
-abbrev at-label : tie.Else5 → tie.After-label2
+abbrev at-label : tie.Else6 → tie.After-label2
 at-label c = at-dossier c .before .before .before .before
 
-abbrev labels : List ℕ
-labels = replicate 100 0
+abbrev at-length : tie.After-label2 → tie.After-read-length
+at-length c =
+    let at-lent = c .before .before in
+    at-lent .before .before
 
--- the label's length is inside its array, before and after it was read
-label-in : (c : tie.Else1) → c .before .read-length .result ≤ length labels
-label-in c = omega (arith, length-replicate {A = ℕ} 100 0)
-
+-- the label's length is inside its array, after it was read too
 label-read : (c : tie.After-label2)
-    → let n = c .before .before .before .before .read-length .result in
-    n ≤ length (c .before .read-piece .last .0 ++ drop n labels)
+    → let n = at-length c .read-length .result in
+    n ≤ length (c .before .read-piece .last .0 ++ drop n (replicate 100 0))
 label-read c =
-    let inside = label-in (c .before .before .before) in
-    omega (arith, lent-back _ (c .before .read-piece .last .0) labels (c .label2 .given) inside)
+    let n = at-length c .read-length .result in
+    omega (arith, equal-back 100 0 n (c .before .read-piece .last .0) (c .label2 .given) (omega arith))
 
 large-buffer-requires : tie.Need-large-buffer-requires
 large-buffer-requires c κs = search needs
@@ -46,7 +46,7 @@ array-borrow-prefix-label : tie.Need-array-borrow-prefix-label
 array-borrow-prefix-label c = search needs
 
 slice-aggregate-read-piece : tie.Need-slice-aggregate-read-piece
-slice-aggregate-read-piece c = lent _ _ (label-in (c .before))
+slice-aggregate-read-piece c = lent _ _ (lent-of-equal 100 0 _ (omega arith))
 
 read-piece-requires : tie.Need-read-piece-requires
 read-piece-requires c κs = search needs
@@ -65,6 +65,12 @@ slice-aggregate-read-part-2 c = search needs
 
 read-part-requires-2 : tie.Need-read-part-requires-2
 read-part-requires-2 c κs = search needs
+
+slice-aggregate-read-ends : tie.Need-slice-aggregate-read-ends
+slice-aggregate-read-ends c = search needs
+
+read-ends-requires : tie.Need-read-ends-requires
+read-ends-requires c κs = search needs
 
 read-length-requires-2 : tie.Need-read-length-requires-2
 read-length-requires-2 c κs = search needs
@@ -90,9 +96,15 @@ array-share-prefix-plan c = omega (arith, ltb-false)
 slice-aggregate-print-vector-3 : tie.Need-slice-aggregate-print-vector-3
 slice-aggregate-print-vector-3 c = lent _ _ (array-share-prefix-plan (c .before))
 
+array-share-prefix-ends : tie.Need-array-share-prefix-ends
+array-share-prefix-ends c = omega (arith, ltb-false)
+
+slice-aggregate-print-vector-4 : tie.Need-slice-aggregate-print-vector-4
+slice-aggregate-print-vector-4 c = lent _ _ (array-share-prefix-ends (c .before))
+
 print-vector-requires : tie.Need-print-vector-requires
 print-vector-requires c κs =
-    let at-label-lent = c .before .before in
+    let at-label-lent = c .before .before .before in
     (omega (arith, slice-aggregate-print-vector at-label-lent), omega (arith, ltb-false))
 
 returns-3 : tie.Need-returns-3
@@ -113,6 +125,8 @@ try-vector-spec =
     read-part-requires
     slice-aggregate-read-part-2
     read-part-requires-2
+    slice-aggregate-read-ends
+    read-ends-requires
     read-length-requires-2
     returns-2
     array-share-prefix-label
@@ -121,5 +135,7 @@ try-vector-spec =
     slice-aggregate-print-vector-2
     array-share-prefix-plan
     slice-aggregate-print-vector-3
+    array-share-prefix-ends
+    slice-aggregate-print-vector-4
     print-vector-requires
     returns-3)
