@@ -950,8 +950,7 @@ static void list_edges(void)
         expect(due, room);
         expect(due ? due : 10, room - 1);
         expect(due ? due : 10, 0);
-        if (due == 0)
-            same_with_ends(&made, &plan, room + draw(9));
+        same_with_ends(&made, &plan, room + draw(9));
         made.n--;
         expect(1, room);
         plan.s[plan.n++] = 'E';

@@ -70,7 +70,7 @@ static uint32_t call(const struct input *in, int which, uint8_t *result, size_t 
 int LLVMFuzzerTestOneInput(const uint8_t *data, size_t size)
 {
     struct input in = divided(data, size);
-    size_t room = size % 4 == 3 ? size % 1550 : KH_AM004_LONGEST_PERIODS;
+    size_t room = size % 4 == 3 ? size / 4 % 1550 : KH_AM004_LONGEST_PERIODS;
     uint8_t *result = room_for(room + 1), *plain = room_for(room + 1), *old = room_for(room + 1);
     for (size_t k = 0; k <= room; k++)
         old[k] = (uint8_t)(k * 167 + size);

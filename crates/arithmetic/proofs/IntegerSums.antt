@@ -1,13 +1,13 @@
 -- Laws of sums of integers.
 -- Assumes nothing.
-use mathlib.Core.Path.{_≡_, refl, _∙_, ap, sym}
+use mathlib.Core.Path.{_≡_, refl, sym}
 use Prim.Native.Nat.{ℕ, zero, suc, _+_, _*_, _≤_, _<_}
 use native.Mathlib.Nat.{le-refl, le-step}
 use native.Mathlib.Numerals.{add-one}
 use native.Mathlib.Omega.{arith}
 use lib.IntN.{ℤ, pos, _+ℤ_, _-ℤ_, +ℤ-assoc, +ℤ-idr, +ℤ-comm, +ℤ-negℤ-cancel}
 use lib.Signed.{mag}
-use Rattle.arithmetic.specs.Sum.{sum, sumℤ}
+use Rattle.arithmetic.specs.Sum.{sumℤ}
 use Rattle.arithmetic.proofs.IntegerLaws.{mag-plus}
 
 -- for a loop that adds one term a turn
@@ -23,12 +23,6 @@ pub sumℤ-cong : (n : ℕ) (f g : ℕ → ℤ) → ((i : ℕ) → i < n → f i
 unfolding sumℤ
 sumℤ-cong zero f g e = refl
 sumℤ-cong (suc n) f g e = rw (sumℤ-cong n f g (λ i h. e i (le-step h)), e n (le-refl (suc n)))
-
--- of numbers that are not negative
-pub sumℤ-pos : (n : ℕ) (f : ℕ → ℕ) → sumℤ n (λ i. pos (f i)) ≡ pos (sum n f)
-unfolding sumℤ sum
-sumℤ-pos zero f = refl
-sumℤ-pos (suc n) f = rw (sumℤ-pos n f)
 
 -- the first m terms and the k after them
 pub sumℤ-split : (m k : ℕ) (f : ℕ → ℤ) → sumℤ (m + k) f ≡ sumℤ m f +ℤ sumℤ k (λ j. f (m + j))

@@ -42,7 +42,7 @@ deforestationProbabilities = 24_900 ∷ 30_900 ∷ 0 ∷ 34_500 ∷ 14_100 ∷ 1
 unfoldable pub emissionFactor : (stocks : List ℕ) (i j : ℕ) → ℕ
 emissionFactor stocks i j = cond (eqb j TP || eqb j PP) 0 (getD stocks i 0 - getD stocks j 0)
 
--- the greatest of a list, 0 of the empty one (#102: "With S the greatest stock used")
+-- the greatest of a list, 0 of the empty one (#102: "With S the greatest stock used"; #107: "the greatest of 0 and the whole tonnes ..")
 unfoldable pub greatestIn : List ℕ → ℕ
 greatestIn [] = 0
 greatestIn (x ∷ rest) = max x (greatestIn rest)

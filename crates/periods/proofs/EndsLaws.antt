@@ -1,7 +1,7 @@
 -- Lists of period ends: the test of them turn by turn, and that it holds just of those in range.
 -- Assumes nothing.
-use Prim.Native.Nat.{ℕ, zero, suc, _+_, _≤_, _<_}
-use mathlib.Core.Path.{_≡_, refl, _∙_, ap, sym}
+use Prim.Native.Nat.{ℕ, zero, suc, _+_, _-_, _≤_, _<_}
+use mathlib.Core.Path.{_≡_, refl, _∙_, sym}
 use mathlib.Core.Bool.{Bool, true, false, cond}
 use mathlib.Core.Logic.{_↔_}
 use mathlib.Core.List.{List, [], _∷_}
@@ -10,20 +10,20 @@ use native.Mathlib.Omega.{arith}
 use lib.Dec.{ltb, eqb}
 use lib.ListN.{length, drop, getD}
 use lib.Seq.{drop-cons, drop-length}
-use borrow.Author.Tests.{lt-ltb, le-ltb, eq-eqb, ne-eqb, ltb-true, ltb-false, eqb-true}
-use Rattle.periods.specs.Periods.{EndsInRange, endsFrom, endsFit}
+use borrow.Author.Tests.{lt-ltb, le-ltb, eq-eqb, ne-eqb, ltb-true, ltb-false, eqb-true, eqb-false}
+use Rattle.periods.specs.Periods.{Inside, EndsInRange, endsFrom, endsSound}
 
 -- ---- turn by turn
 -- a list that is not empty
-pub fit-some : (first n : ℕ) (ends : List ℕ) → (length ends ≡ 0 → ⊥) → endsFit first n ends ≡ endsFrom first (first + n) ends
-unfolding endsFit
-fit-some first n [] h = absurd (h refl)
-fit-some first n (end ∷ ends) h = refl
+pub sound-some : (first n : ℕ) (ends : List ℕ) → (length ends ≡ 0 → ⊥) → endsSound first n ends ≡ endsFrom first (first + n) ends
+unfolding endsSound
+sound-some first n [] h = absurd (h refl)
+sound-some first n (end ∷ ends) h = refl
 
-pub fit-none : (first n : ℕ) (ends : List ℕ) → length ends ≡ 0 → endsFit first n ends ≡ true
-unfolding endsFit
-fit-none first n [] h = refl
-fit-none first n (end ∷ ends) h = absurd (omega arith)
+pub sound-none : (first n : ℕ) (ends : List ℕ) → length ends ≡ 0 → endsSound first n ends ≡ true
+unfolding endsSound
+sound-none first n [] h = refl
+sound-none first n (end ∷ ends) h = absurd (omega arith)
 
 -- the end at place i
 module _ (least beyond : ℕ) (ends : List ℕ) (i : ℕ) (h : i < length ends) where
@@ -43,10 +43,14 @@ module _ (least beyond : ℕ) (ends : List ℕ) (i : ℕ) (h : i < length ends) 
   unfolding endsFrom
   end-taken later inside = rw (drop-cons ends i 0 h, le-ltb (getD ends i 0) least later, lt-ltb (getD ends i 0) beyond inside, add-one i)
 
--- after the last
-pub end-last : (least beyond : ℕ) (ends : List ℕ) → endsFrom least beyond (drop (length ends) ends) ≡ eqb least beyond
+-- after the last, as many years are passed as there are
+pub end-last : (least first n : ℕ) (ends : List ℕ) (i : ℕ) → i ≡ length ends → first ≤ least → endsFrom least (first + n) (drop i ends) ≡ eqb (least - first) n
 unfolding endsFrom
-end-last least beyond ends = rw (drop-length ends)
+end-last least first n ends i e later = rw (e, drop-length ends) (go (eqb (least - first) n) refl)
+  where
+    go : (b : Bool) → eqb (least - first) n ≡ b → eqb least (first + n) ≡ b
+    go true f = eq-eqb least (first + n) (omega (arith, eqb-true (least - first) n f))
+    go false f = ne-eqb least (first + n) (λ z. eqb-false (least - first) n f (omega arith))
 
 -- ---- what the test says of the years
 -- each end at least the least year, below the one beyond the last, and later than the one before it
@@ -109,20 +113,20 @@ from-all least beyond end (next ∷ ends) inside rising last = (
 )
 
 -- ---- the ends of a sound list
-pub fit-inside : (first n : ℕ) (ends : List ℕ) → endsFit first n ends ≡ true → (i : ℕ) → i < length ends → (first ≤ getD ends i 0) × (getD ends i 0 < first + n)
-fit-inside first n ends e i q = from-inside first (first + n) ends (from-test first (first + n) ends (sym (fit-some first n ends (λ z. omega arith)) ∙ e)) i q
+pub sound-inside : (first n : ℕ) (ends : List ℕ) → endsSound first n ends ≡ true → Inside first n ends
+sound-inside first n ends e i q = from-inside first (first + n) ends (from-test first (first + n) ends (sym (sound-some first n ends (λ z. omega arith)) ∙ e)) i q
 
-pub fit-count : (first n : ℕ) (ends : List ℕ) → endsFit first n ends ≡ true → length ends ≤ n
-fit-count first n [] e = omega arith
-fit-count first n (end ∷ ends) e = omega (arith, from-count first (first + n) (end ∷ ends) (from-test first (first + n) (end ∷ ends) (unfold endsFit in e)))
+pub sound-count : (first n : ℕ) (ends : List ℕ) → endsSound first n ends ≡ true → length ends ≤ n
+sound-count first n [] e = omega arith
+sound-count first n (end ∷ ends) e = omega (arith, from-count first (first + n) (end ∷ ends) (from-test first (first + n) (end ∷ ends) (unfold endsSound in e)))
 
 -- the test holds just of the lists in range, of at most 20 years
-pub ends-judged : (first n : ℕ) → n ≤ 20 → (ends : List ℕ) → (endsFit first n ends ≡ true) ↔ EndsInRange first n ends
-ends-judged first n few [] = unfold endsFit in (
+pub ends-judged : (first n : ℕ) → n ≤ 20 → (ends : List ℕ) → (endsSound first n ends ≡ true) ↔ EndsInRange first n ends
+ends-judged first n few [] = unfold endsSound in (
   (λ e. record { most = omega arith; rising = λ i q. absurd (omega arith); inside = λ i q. absurd (omega arith); last = λ i q. absurd (omega arith) }),
   λ r. refl,
 )
-ends-judged first n few (end ∷ ends) = ((λ e. there (from-test first (first + n) (end ∷ ends) (unfold endsFit in e))), λ r. unfold endsFit in test-from first (first + n) (end ∷ ends) (back r))
+ends-judged first n few (end ∷ ends) = ((λ e. there (from-test first (first + n) (end ∷ ends) (unfold endsSound in e))), λ r. unfold endsSound in test-from first (first + n) (end ∷ ends) (back r))
   where
     there : From first (first + n) (end ∷ ends) → EndsInRange first n (end ∷ ends)
     there h = record {

@@ -1,4 +1,4 @@
--- Tonnes issued at ends, in natural numbers: so many as bring all that are issued up to the greatest whole tonnes so far.
+-- Tonnes issued at ends: at one end in natural numbers, turn by turn, their range, and their bytes stored one after the other.
 -- Assumes nothing.
 use Prim.Native.Nat.{ℕ, suc, _+_, _-_, _*_, _^_, _<_}
 use mathlib.Core.Path.{_≡_, refl, _∙_, ap, sym}

@@ -1,4 +1,4 @@
--- Running totals as the code keeps them, and that they and their differences fit 64 signed bits.
+-- Running totals as the code keeps them, and that they fit 64 signed bits.
 -- Assumes nothing.
 use Prim.Native.Nat.{ℕ, suc, _+_, _-_, _^_, _≤_, _<_}
 use mathlib.Core.Path.{_≡_, refl, _∙_, ap, sym}
@@ -18,7 +18,7 @@ use Rattle.arithmetic.proofs.IntegerSums.{sumℤ-next, sumℤ-mag}
 use Rattle.classes.specs.declared.Grams.{Grams}
 use Rattle.classes.specs.Ranges.{greatestFigure}
 use Rattle.figures.specs.declared.Figures.{Figures}
-use Rattle.periods.specs.Periods.{runningTotal, creditedIn}
+use Rattle.periods.specs.Periods.{Inside, runningTotal, creditedIn}
 use Rattle.periods.specs.Ranges.{SmallYears, keptAt, Kept}
 
 -- no running total leaves 63 bits
@@ -47,7 +47,7 @@ module _ (figures : List Figures) (totals : List Grams) (y : ℕ) (kept : Kept y
 
 -- totals that are the same after each of the years are the same at ends within them
 pub totals-same : (first n : ℕ) (f g : ℕ → ℤ) → ((y : ℕ) → y ≤ n → f y ≡ g y) → (ends : List ℕ)
-    → ((i : ℕ) → i < length ends → (first ≤ getD ends i 0) × (getD ends i 0 < first + n))
+    → Inside first n ends
     → map (λ (end : ℕ). f (end + 1 - first)) ends ≡ map (λ (end : ℕ). g (end + 1 - first)) ends
 totals-same first n f g same [] inside = refl
 totals-same first n f g same (end ∷ ends) inside =

@@ -12,28 +12,33 @@ use Rattle.arithmetic.specs.Rounding.{positivePart}
 use Rattle.figures.specs.declared.Figures.{Figures}
 use Rattle.figures.specs.Figures.{noFigures, tonnesOf}
 
--- "A list of up to 20 period end years (.. rising, inside the dossier's years, the last being its last year)", n years from first on; "an empty list
--- means one period"
+-- "inside the dossier's years", n from first on
+abbrev pub Inside : (first n : ℕ) (ends : List ℕ) → Type 0
+Inside first n ends = (i : ℕ) → i < length ends → (first ≤ getD ends i 0) × (getD ends i 0 < first + n)
+
+-- "A list of up to 20 period end years (.. rising, inside the dossier's years, the last being its last year)"; "an empty list means one period"
 pub record EndsInRange (first n : ℕ) (ends : List ℕ) : Type 0 where
   pub most : length ends ≤ 20
   pub rising : (i : ℕ) → i + 1 < length ends → getD ends i 0 < getD ends (i + 1) 0
-  pub inside : (i : ℕ) → i < length ends → (first ≤ getD ends i 0) × (getD ends i 0 < first + n)
+  pub inside : Inside first n ends
   pub last : (i : ℕ) → i + 1 ≡ length ends → getD ends i 0 + 1 ≡ first + n
 
 -- that as a test: no end is before the least year that is left, the first or the one after the end before it, none is as late as the year beyond the
--- last, and after the last end that one is left. Such a list has no more ends than years.
+-- last, and after the last end that one is left. Such a list has no more ends than years, and for at most 20 years the test holds just of the lists in
+-- range (`ends-judged`, in proofs/EndsLaws).
 unfoldable pub endsFrom : (least beyond : ℕ) → List ℕ → Bool
 endsFrom least beyond [] = eqb least beyond
 endsFrom least beyond (end ∷ ends) = cond (ltb end least) false (cond (ltb end beyond) (endsFrom (end + 1) beyond ends) false)
 
-unfoldable pub endsFit : (first n : ℕ) → List ℕ → Bool
-endsFit first n [] = true
-endsFit first n (end ∷ ends) = endsFrom first (first + n) (end ∷ ends)
+unfoldable pub endsSound : (first n : ℕ) → List ℕ → Bool
+endsSound first n [] = true
+endsSound first n (end ∷ ends) = endsFrom first (first + n) (end ∷ ends)
 
 -- "Keep running credited totals": that of the first y years, from the credited grams of each
 abbrev pub runningTotal : (credited : ℕ → ℤ) (y : ℕ) → ℤ
 runningTotal credited y = sumℤ y credited
 
+-- the credited grams of year k, counted from 0
 abbrev pub creditedIn : List Figures → ℕ → ℤ
 creditedIn figures k = getD figures k noFigures .credited .0
 

@@ -8,18 +8,16 @@ ghost use lib.IntN.{pos};
 ghost use lib.ListN.{length};
 ghost use lib.Seq.{sets};
 ghost use Rattle.wire.specs.Signed.{figuresBytes};
-ghost use Rattle.periods.specs.Periods.{endsFit, creditedIn, issuedNow, issuedTonnes};
+ghost use Rattle.periods.specs.Periods.{endsSound, creditedIn, issuedNow, issuedTonnes};
 ghost use Rattle.periods.specs.Ranges.{SmallYears, Kept};
 
 // Whether a list of period ends is sound for so many years from first on.
-pub fn fit(ends: &[u16], first: u64, years: u64) -> bool
-    requires { ⌜ first + years < 65536 ⌝ }
-    ensures { λ r. ⌜ r ≡ endsFit first years (now (ends .entry)) ⌝ }
+pub fn sound(ends: &[u16], first: u64, years: u64) -> bool
+    ensures { λ r. ⌜ r ≡ endsSound first years (now (ends .entry)) ⌝ }
 {
     if ends.len() == 0 {
         return true;
     }
-    let beyond = first + years;
     let mut least = first;
     let mut i: usize = 0;
     while i < ends.len() {
@@ -27,13 +25,13 @@ pub fn fit(ends: &[u16], first: u64, years: u64) -> bool
         if end < least {
             return false;
         }
-        if beyond <= end {
+        if years <= end - first {
             return false;
         }
         least = end + 1;
         i += 1;
     }
-    least == beyond
+    least - first == years
 }
 
 // The running credited totals of k years: at y that of the first y.
@@ -64,7 +62,7 @@ fn issued_now(total: Grams, before: u64) -> u64
     tonnes - before
 }
 
-// Writes the tonnes issued at each end of a sound list, from at on; nothing where there is none.
+// Writes the tonnes issued at each end of a sound list, from at on. With no list no running totals are kept.
 pub fn write_issued(
     figures: [Figures; 20],
     k: u64,
@@ -73,7 +71,7 @@ pub fn write_issued(
     buffer: &mut [u8],
     at: usize,
 )
-    requires { ⌜ SmallYears k figures × (endsFit first k (now ends) ≡ true) ⌝ }
+    requires { ⌜ SmallYears k figures × (endsSound first k (now ends) ≡ true) ⌝ }
     requires { ⌜ at + 8 * length (now ends) ≤ length (now buffer) ⌝ }
     ensures { λ _. ⌜ now (buffer .exit) ≡ sets (now (buffer .entry)) at (figuresBytes (issuedTonnes first (creditedIn figures) (now (ends .entry)))) ⌝ }
 {

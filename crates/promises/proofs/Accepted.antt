@@ -10,7 +10,7 @@ use lib.ListN.{length}
 use Rattle.wire.specs.Bytes.{Bytes}
 use Rattle.figures.specs.Year.{Year}
 use Rattle.dossier.specs.Plan.{Plan}
-use Rattle.dossier.specs.Records.{Opening, WellFormedYears, WellFormedOpening, WellFormedYear, WellFormedPlan}
+use Rattle.dossier.specs.Records.{Opening, WellFormedOpening, WellFormedYear, WellFormedPlan}
 use Rattle.dossier.specs.Reader.{Judged, refused, accepted}
 use Rattle.dossier.specs.Claims.{numberOf}
 use Rattle.dossier.specs.Judging.{openingPiece, yearPiece}
@@ -20,7 +20,7 @@ use Rattle.periods.specs.Periods.{EndsInRange}
 use Rattle.reckoner.specs.declared.Ledger.{Ledger}
 use Rattle.reckoner.specs.Ledger.{dueOf}
 use Rattle.reckoner.specs.Calls.{answerNumber, openJudged, openCall, yearJudged, yearCall, HandedBack, reckonNumber}
-use Rattle.promises.specs.Accepted.{AcceptedWhen}
+use Rattle.promises.specs.Accepted.{BothWellFormed, AcceptedWhen}
 use Rattle.reckoner.proofs.Invariant.{handed-kept, due-kept}
 use Rattle.reckoner.proofs.CloseLaws.{close-zero}
 use Rattle.reckoner.proofs.Numbers.{number-zero}
@@ -45,12 +45,11 @@ year-when {l} k piece plan b bp =
     rw (year-number l (under plan (λ p. yearPiece (dueOf p l)) piece)) (Iff·symm (year-zero (λ p. dueOf p l) (λ p lent. due-kept p lent l (handed-kept k)) piece plan b bp))
 
 reckoning-when : (s plan ends : List ℕ) → Bytes s → Bytes plan → (size : ℕ)
-    → (reckonNumber s plan ends size ≡ 0) ↔ ((p : Option Plan) × WellFormedPlan p plan
-    × ((first : ℕ) × (n : ℕ) × WellFormedYears first n p s × EndsInRange first n ends × (64 * n + 32 + 8 * length ends ≤ size)))
+    → (reckonNumber s plan ends size ≡ 0) ↔ BothWellFormed s plan (λ first n. EndsInRange first n ends × (64 * n + 32 + 8 * length ends ≤ size))
 reckoning-when s plan ends b bp size =
     let x = number-zero s plan ends b bp size in (
-      (λ h. let (p, w, (d, r, e, fit, enough)) = x .1 h in (p, w, (d .opening .head .firstYear, d .opening .head .years, (d, r, e, refl, r .count), fit, enough))),
-      λ (p, w, (first, n, (d, r, e, since, count), fit, enough)). x .0 (p, w, (d, r, e, rw (since, sym (r .count) ∙ count) fit, omega (arith, r .count, count, enough))),
+      (λ h. let (p, w, (d, r, e, fit, enough)) = x .1 h in (p, w, (d .opening .head .firstYear, d .opening .head .years, (d, r, e, refl, r .count), (fit, enough)))),
+      λ (p, w, (first, n, (d, r, e, since, count), (fit, enough))). x .0 (p, w, (d, r, e, rw (since, sym (r .count) ∙ count) fit, omega (arith, r .count, count, enough))),
     )
 
 pub accepted-when : AcceptedWhen

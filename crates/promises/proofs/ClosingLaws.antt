@@ -17,9 +17,9 @@ use Rattle.wire.proofs.SignedLaws.{length-figures, figures-append, written-figu
 use Rattle.report.specs.Report.{eight, eights, closing, reported}
 use Rattle.report.proofs.ReportLaws.{length-years}
 use Rattle.reckoner.specs.declared.Ledger.{Ledger}
-use Rattle.periods.specs.Periods.{creditedIn, issuedAfter, totalsAt, issuedTonnes}
+use Rattle.periods.specs.Periods.{Inside, creditedIn, issuedAfter, totalsAt, issuedTonnes}
 use Rattle.periods.specs.Ranges.{SmallYears}
-use Rattle.periods.proofs.EndsLaws.{fit-inside}
+use Rattle.periods.proofs.EndsLaws.{sound-inside}
 use Rattle.periods.proofs.RunningLaws.{running-fits}
 use Rattle.periods.proofs.IssuedLaws.{issued-now, count-issued}
 use Rattle.reckoner.specs.Ledger.{firstYear, report}
@@ -73,7 +73,7 @@ eights-at (f ∷ fs) rest (suc k) j h q =
 
 -- running totals within the years fit, and so do the tonnes issued at them
 fit-totals : (k first : ℕ) (figures : List Figures) → SmallYears k figures → (ends : List ℕ)
-    → ((i : ℕ) → i < length ends → (first ≤ getD ends i 0) × (getD ends i 0 < first + k)) → Fit (totalsAt first (creditedIn figures) ends)
+    → Inside first k ends → Fit (totalsAt first (creditedIn figures) ends)
 fit-totals k first figures small [] inside = tt
 fit-totals k first figures small (end ∷ ends) inside =
     let (later, early) = inside 0 (omega arith) in
@@ -138,7 +138,7 @@ module _ (l : Ledger) (kept : LedgerKept l) where
   -- ---- written into a buffer long enough, with a sound list
   module _ (ends buffer : List ℕ) (fit : sound l ends ≡ true) (h : 64 * l .given + 32 + 8 * length ends ≤ length buffer) where
     issued-fit : Fit (issuedTonnes (firstYear l) (creditedIn (l .figures)) ends)
-    issued-fit = fit-issued 0 _ (fit-totals (l .given) (firstYear l) (l .figures) (years-small l kept) ends (fit-inside _ _ ends fit))
+    issued-fit = fit-issued 0 _ (fit-totals (l .given) (firstYear l) (l .figures) (years-small l kept) ends (sound-inside _ _ ends fit))
 
     numbers-fit : Fit (periodsReport l ends)
     numbers-fit = fit-append (report l) _ (rw report-is (fit-append years last years-fit last-fit)) issued-fit

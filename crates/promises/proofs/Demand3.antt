@@ -24,7 +24,7 @@ use Rattle.assurance.proofs.YearLaws.{Reckoned, opened-reckoned}
 use Rattle.wire.specs.Bytes.{Bytes}
 use Rattle.wire.specs.Signed.{figureAt}
 use Rattle.report.specs.Report.{eight, closing}
-use Rattle.periods.specs.Periods.{endsFit, runningTotal}
+use Rattle.periods.specs.Periods.{endsSound, runningTotal}
 use Rattle.dossier.specs.Records.{Opening, OpeningInRange, termsOf, stateOf, emptyTerms, emptyState, Settled, settled}
 use Rattle.dossier.specs.Reader.{Judged, refused, accepted}
 use Rattle.dossier.specs.Judging.{openingPiece}
@@ -140,7 +140,7 @@ module _ (l : Ledger) (o : Opened l) (k : LedgerKept l) (ys : List Year) (inRang
 
   -- closed with a buffer long enough, it stands there
   closing-back : (buffer : List ℕ) → 64 * length ys + 32 ≤ length buffer → (i : ℕ) → i < length (report after) → figureAt (closedBuffer after buffer) (8 * i) ≡ getD (report after) i (pos 0)
-  closing-back buffer h = report-back after kept-is [] buffer (unfold endsFit in refl) (omega (arith, count-is))
+  closing-back buffer h = report-back after kept-is [] buffer (unfold endsSound in refl) (omega (arith, count-is))
 
 -- ---- after any list of calls
 module _ (opening : List ℕ) (b : Bytes opening) where

@@ -23,7 +23,7 @@ use Rattle.dossier.proofs.WellFormed.{dossier-accepted, opening-accepted, plan-
 use Rattle.dossier.proofs.UnderLaws.{under-accepted, no-plan}
 use Rattle.dossier.proofs.Pieces.{YearPieces, years-given}
 use Rattle.dossier.proofs.DossierLaws.{room-opening}
-use Rattle.periods.specs.Periods.{EndsInRange, endsFit, runningTotal}
+use Rattle.periods.specs.Periods.{EndsInRange, endsSound, runningTotal}
 use Rattle.periods.proofs.EndsLaws.{ends-judged}
 use Rattle.reckoner.specs.declared.Ledger.{Ledger}
 use Rattle.reckoner.specs.declared.Answer.{Answer}
@@ -38,7 +38,7 @@ use Rattle.promises.specs.CallList.{Call, afterCalls, ledgerAfter, LentB
 use Rattle.promises.specs.Reported.{creditedAt, Reported}
 use Rattle.promises.specs.Periods.{PeriodsReported}
 use Rattle.promises.specs.Lists.{ListAssured}
-use Rattle.promises.specs.Dossiers.{SameInPieces, yearCalls, OwnAssured, DossierAssured, CallAssured}
+use Rattle.promises.specs.Dossiers.{SameInPieces, yearCalls, ReckoningAssured, DossierAssured, CallAssured}
 use Rattle.promises.proofs.ClosingLaws.{report-first, report-back}
 use Rattle.promises.proofs.PeriodsLaws.{periods-reported}
 use Rattle.promises.proofs.CallsLaws.{Taken, taken}
@@ -142,7 +142,7 @@ module _ (s planned : List ℕ) (b : Bytes s) (bp : Bytes planned) (p : Option P
   count-all = given-all p d h ∙ sym (h .count)
 
   no-ends : EndsInRange (d .opening .head .firstYear) (length (d .years)) []
-  no-ends = let few : length (d .years) ≤ 20 = omega (arith, h .count, h .opening .head .count .most) in ends-judged _ _ few [] .0 (unfold endsFit in refl)
+  no-ends = let few : length (d .years) ≤ 20 = omega (arith, h .count, h .opening .head .count .most) in ends-judged _ _ few [] .0 (unfold endsSound in refl)
 
   module _ (ends buffer : List ℕ) (fit : EndsInRange (d .opening .head .firstYear) (length (d .years)) ends) (room : 64 * length (d .years) + 32 + 8 * length ends ≤ length buffer) where
     is-sound : sound (ledgerOf d) ends ≡ true
@@ -175,7 +175,7 @@ module _ (s planned : List ℕ) (b : Bytes s) (bp : Bytes planned) (p : Option P
     own-first = rw (own-buffer, ← count-all) (report-first (ledgerOf d) own-kept ends buffer is-sound enough)
 
   own-assured : (ends : List ℕ) → EndsInRange (d .opening .head .firstYear) (length (d .years)) ends
-      → (buffer : List ℕ) → 64 * length (d .years) + 32 + 8 * length ends ≤ length buffer → OwnAssured s planned d ends buffer
+      → (buffer : List ℕ) → 64 * length (d .years) + 32 + 8 * length ends ≤ length buffer → ReckoningAssured s planned d ends buffer
   own-assured ends fit buffer room = record {
     reported = rw (own-buffer ends buffer fit room) (own-reported ends buffer fit room);
     periods = rw (own-buffer ends buffer fit room) (own-periods ends buffer fit room);

@@ -24,7 +24,7 @@ use Rattle.dossier.specs.JudgingRecords.{head, stocksIfAny, areas, matrixUnder,
 use Rattle.dossier.specs.Judging.{opening, another, run, activities, fromThePlan, taken, yearRecords, yearLeft, year, end, years, dossier}
 use Rattle.dossier.specs.JudgingPlan.{lentPlan, under}
 use Rattle.report.specs.Report.{eights, reported}
-use Rattle.periods.specs.Periods.{endsFit, issuedAfter}
+use Rattle.periods.specs.Periods.{endsSound, issuedAfter}
 use Rattle.reckoner.specs.Ledger.{newLedger, openedLedger, dueOf, givenYear, givenYears, ledgerOf, report}
 use Rattle.reckoner.specs.Calls.{periodsAnswer, periodsBuffer, dossierCall, reckonBuffer}
 use Rattle.sheet.specs.Decimal.{digits, decimal, decimalOf}
@@ -46,7 +46,7 @@ unfolding examples caseA bufferA threeUnits
     regionReference tableEmissions yearFigures afterFigures afterYear
     -- the ledger, its report and the bytes written
     termsOf stateOf firstDue next newLedger openedLedger dueOf givenYear givenYears ledgerOf dossierCall
-    report reported eights twosComplement figureBytes figuresBytes written endsFit issuedAfter periodsAnswer periodsBuffer reckonBuffer
+    report reported eights twosComplement figureBytes figuresBytes written endsSound issuedAfter periodsAnswer periodsBuffer reckonBuffer
     -- read back, and printed
     fieldAt signed figureAt digits decimal decimalOf header spaced yearLine yearLines named totalLine sheetOf printout
 examples-hold = refl

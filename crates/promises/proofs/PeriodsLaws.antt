@@ -1,4 +1,4 @@
--- The tonnes issued, read back from the bytes that a closing with a list of period ends wrote, beside the credited figures there.
+-- The tonnes issued, read back from the bytes of a ledger's report with a list of period ends, beside the credited figures there.
 -- Assumes nothing.
 use Prim.Native.Nat.{ℕ, _+_, _-_, _*_, _^_, _≤_, _<_}
 use mathlib.Core.Path.{_≡_, refl, _∙_, ap, sym}
@@ -14,8 +14,8 @@ use Rattle.classes.specs.Classes.{greatestIn}
 use Rattle.classes.specs.Ranges.{greatestFigure}
 use Rattle.figures.specs.Figures.{tonnesOf}
 use Rattle.wire.specs.Signed.{figureAt}
-use Rattle.periods.specs.Periods.{EndsInRange, runningTotal, creditedIn, totalsAt, issuedAfter, issuedTonnes}
-use Rattle.periods.proofs.EndsLaws.{ends-judged, fit-inside}
+use Rattle.periods.specs.Periods.{runningTotal, creditedIn, totalsAt, issuedAfter, issuedTonnes}
+use Rattle.periods.proofs.EndsLaws.{ends-judged, sound-inside}
 use Rattle.periods.proofs.RunningLaws.{totals-same}
 use Rattle.periods.proofs.IssuedLaws.{issued-now}
 use Rattle.periods.proofs.TogetherLaws.{together}
@@ -48,7 +48,7 @@ module _ (l : Ledger) (kept : LedgerKept l) (ends buffer : List ℕ) (fit : soun
   running-back y q = sumℤ-cong y (creditedAt closed) (creditedIn (l .figures)) (λ k r. credited-back k (omega arith))
 
   totals-back : totalsAt (firstYear l) (creditedAt closed) ends ≡ totalsAt (firstYear l) (creditedIn (l .figures)) ends
-  totals-back = totals-same (firstYear l) n (runningTotal (creditedAt closed)) (runningTotal (creditedIn (l .figures))) running-back ends (fit-inside _ _ ends fit)
+  totals-back = totals-same (firstYear l) n (runningTotal (creditedAt closed)) (runningTotal (creditedIn (l .figures))) running-back ends (sound-inside _ _ ends fit)
 
   issued-is : (i : ℕ) → i < length ends → issuedAt n closed i ≡ getD (issuedTonnes (firstYear l) (creditedAt closed) ends) i (pos 0)
   issued-is i q = issued-back l kept ends buffer fit h i q ∙ ap (λ (ts : List ℤ). getD (issuedAfter (pos 0) ts) i (pos 0)) (sym totals-back)

@@ -1,33 +1,33 @@
 -- Demand 1: a refused call leaves ledger and buffer as they were, and gives the number of one of its causes.
 -- Assumes nothing.
-use Prim.Native.Nat.{ℕ}
+use Prim.Native.Nat.{ℕ, _+_, _*_, _<_}
 use mathlib.Core.Path.{_≡_, refl, _∙_, ap, sym}
 use mathlib.Core.Logic.{_↔_, inl, inr}
 use mathlib.Core.Bool.{Bool, true, false}
 use mathlib.Core.Option.{Option, none}
 use mathlib.Core.List.{List, [], _∷_}
 use native.Mathlib.Omega.{arith}
-use lib.Dec.{lit<}
+use lib.Dec.{T, lit<}
 use lib.ListN.{length, replicate}
 use Rattle.wire.specs.Bytes.{Bytes}
 use Rattle.wire.specs.Signed.{written}
 use Rattle.figures.specs.Year.{Year}
-use Rattle.dossier.specs.Causes.{planNotOfForm, recordRepeated, endsWrong, yearCauses, closingCauses, _∈_, ZeroOr}
+use Rattle.dossier.specs.Causes.{bufferTooShort, planNotOfForm, recordRepeated, endsWrong, yearCauses, closingCauses, _∈_, ZeroOr}
 use Rattle.dossier.specs.Plan.{Plan}
-use Rattle.dossier.specs.Records.{Opening, Dossier, bytesIfAny, WellFormedYears, WellFormedPlan}
+use Rattle.dossier.specs.Records.{Opening, Dossier, DossierInRange, bytesIfAny}
 use Rattle.dossier.specs.Claims.{numberOf}
 use Rattle.dossier.specs.Repeated.{PlanRepeats}
 use Rattle.dossier.specs.Reader.{Judged, refused, accepted, Reader}
 use Rattle.dossier.specs.Judging.{dossier, openingPiece, yearPiece}
 use Rattle.dossier.specs.JudgingPlan.{lentPlan, under}
-use Rattle.dossier.proofs.CauseLaws.{not-listed, planCauses, dossierCauses}
+use Rattle.dossier.proofs.CauseLaws.{without, not-listed, planCauses, dossierCauses}
 use Rattle.dossier.proofs.Causes.{yearPiece-causes, dossier-causes}
 use Rattle.dossier.proofs.WellFormed.{dossier-accepted, plan-accepted}
 use Rattle.dossier.proofs.PlanLaws.{lentPlan-refused}
 use Rattle.dossier.proofs.PlanRepeated.{repeats-lent}
 use Rattle.dossier.proofs.UnderLaws.{under-refused, under-none, no-plan, dossier-under-causes}
 use Rattle.dossier.proofs.Numbers.{under-zero}
-use Rattle.periods.specs.Periods.{EndsInRange, endsFit}
+use Rattle.periods.specs.Periods.{EndsInRange, endsSound}
 use Rattle.periods.proofs.EndsLaws.{ends-judged}
 use Rattle.reckoner.specs.declared.Ledger.{Ledger}
 use Rattle.reckoner.specs.declared.Answer.{Answer}
@@ -50,10 +50,11 @@ use Rattle.reckoner.specs.Calls.{
   reckonNumber,
   reckonBuffer,
 }
-use Rattle.reckoner.proofs.CloseLaws.{sound, periods-fifteen}
-use Rattle.reckoner.proofs.Numbers.{number-refused, number-accepted, sound-years, judged-as, number-zero, open-numbers, year-numbers, close-numbers, periods-numbers, reckon-numbers}
+use Rattle.reckoner.proofs.CloseLaws.{sound, periods-ten, periods-fifteen}
+use Rattle.reckoner.proofs.Numbers.{given-all, number-refused, number-accepted, sound-years, judged-as, number-zero, open-numbers, year-numbers, close-numbers, periods-numbers, reckon-numbers}
 use Rattle.sheet.specs.Sheet.{refusalOf}
 use Rattle.printout.specs.Printout.{printed, printout}
+use Rattle.promises.specs.Accepted.{BothWellFormed}
 use Rattle.promises.specs.Refusals.{NotOfForm, ByPlan, RefusalsLeave}
 
 open-refused : (piece : List ℕ) → (answerNumber (openCall piece .answer) ≡ 0 → ⊥) → openCall piece .ledger ≡ emptyLedger
@@ -140,33 +141,63 @@ reckoning-plan s plan ends size b = by-plan _ plan b (λ m e. number-refused s p
         under-none dossier dossierCauses tt dossier-causes plan s (e ∙ ap (λ (k : ℕ). refused k) twelve)
     go (accepted d rest) e z = absurd (closed (periods-numbers (ledgerOf d) ends size) (sym (number-accepted s plan ends size d rest e) ∙ z))
 
--- ---- the list's number, after plan and dossier and before the buffer's
-reckoning-ends : (s plan ends : List ℕ) (size : ℕ) → Bytes s → Bytes plan
-    → (reckonNumber s plan ends size ≡ endsWrong) ↔ ((p : Option Plan) × WellFormedPlan p plan × ((first : ℕ) × (n : ℕ) × WellFormedYears first n p s × (EndsInRange first n ends → ⊥)))
-reckoning-ends s plan ends size b bp = (there (under plan dossier s) refl, back)
+-- ---- the list's number, after plan and dossier, and the buffer's, after all
+-- a number that neither plan nor dossier answers, from what a closing with the list answers
+last-number : (cause : ℕ) → T (without cause (planNotOfForm ∷ dossierCauses)) → (s plan ends : List ℕ) (size : ℕ) → Bytes s → Bytes plan → (P : (first n : ℕ) → Type 0)
+    → ((p : Option Plan) (d : Dossier) → DossierInRange p d → (periodsSays (ledgerOf d) ends size .number ≡ cause) ↔ P (d .opening .head .firstYear) (d .opening .head .years))
+    → (reckonNumber s plan ends size ≡ cause) ↔ BothWellFormed s plan P
+last-number cause others s plan ends size b bp P closing = (there (under plan dossier s) refl, back)
   where
-    both : false ≡ true → ⊥
-    both e = let z : _≡_ {A = ℕ} 0 1 = cc in omega arith
-
-    there : (j : Judged Dossier) → under plan dossier s ≡ j → reckonNumber s plan ends size ≡ endsWrong
-        → (p : Option Plan) × WellFormedPlan p plan × ((first : ℕ) × (n : ℕ) × WellFormedYears first n p s × (EndsInRange first n ends → ⊥))
+    there : (j : Judged Dossier) → under plan dossier s ≡ j → reckonNumber s plan ends size ≡ cause → BothWellFormed s plan P
     there (refused n) e z =
-        let fifteen = sym (number-refused s plan ends size n e) ∙ z in
-        absurd (not-listed endsWrong (planNotOfForm ∷ dossierCauses) tt (rw fifteen at (dossier-under-causes plan s n e)))
+        let same = sym (number-refused s plan ends size n e) ∙ z in
+        absurd (not-listed cause (planNotOfForm ∷ dossierCauses) others (rw same at (dossier-under-causes plan s n e)))
     there (accepted d rest) e z =
         let (p, w, (f, h, es)) = under-zero dossier-accepted (planNotOfForm ∷ dossierCauses) tt dossier-under-causes s plan b bp .1 (ap numberOf e) in
         let number = number-accepted s plan ends size f [] (judged-as s plan p w f h es) in
-        let wrong = sym (sound-years p f h ends) ∙ periods-fifteen (ledgerOf f) ends size .0 (sym number ∙ z) in
-        (p, w, (f .opening .head .firstYear, f .opening .head .years, (f, h, es, refl, h .count), λ r. both (sym wrong ∙ ends-judged _ _ (h .opening .head .count .most) ends .1 r)))
+        (p, w, (f .opening .head .firstYear, f .opening .head .years, (f, h, es, refl, h .count), closing p f h .0 (sym number ∙ z)))
 
-    back : ((p : Option Plan) × WellFormedPlan p plan × ((first : ℕ) × (n : ℕ) × WellFormedYears first n p s × (EndsInRange first n ends → ⊥))) → reckonNumber s plan ends size ≡ endsWrong
-    back (p, w, (first, n, (d, r, e, since, count), f)) =
-        number-accepted s plan ends size d [] (judged-as s plan p w d r e)
-        ∙ periods-fifteen (ledgerOf d) ends size .1 (not-sound (sound (ledgerOf d) ends) refl)
-      where
-        not-sound : (b : Bool) → sound (ledgerOf d) ends ≡ b → b ≡ false
-        not-sound true g = absurd (f (rw (← since, ← count, r .count) (ends-judged _ _ (r .opening .head .count .most) ends .0 (sym (sound-years p d r ends) ∙ g))))
-        not-sound false g = refl
+    back : BothWellFormed s plan P → reckonNumber s plan ends size ≡ cause
+    back (p, w, (first, n, (d, r, e, since, count), h)) =
+        let moved : P (d .opening .head .firstYear) (d .opening .head .years) = rw (since, sym (r .count) ∙ count) h in
+        number-accepted s plan ends size d [] (judged-as s plan p w d r e) ∙ closing p d r .1 moved
+
+-- of a dossier's ledger: its list is sound just where it is in range
+in-range-sound : (p : Option Plan) (d : Dossier) → DossierInRange p d → (ends : List ℕ)
+    → (sound (ledgerOf d) ends ≡ true) ↔ EndsInRange (d .opening .head .firstYear) (d .opening .head .years) ends
+in-range-sound p d h ends =
+    let x = ends-judged _ _ (h .opening .head .count .most) ends in
+    ((λ e. x .0 (sym (sound-years p d h ends) ∙ e)), λ r. sound-years p d h ends ∙ x .1 r)
+
+reckoning-ends : (s plan ends : List ℕ) (size : ℕ) → Bytes s → Bytes plan → (reckonNumber s plan ends size ≡ endsWrong) ↔ BothWellFormed s plan (λ first n. EndsInRange first n ends → ⊥)
+reckoning-ends s plan ends size b bp = last-number endsWrong tt s plan ends size b bp _ (λ p d h. closing p d h)
+  where
+    no : (b : Bool) → (b ≡ true → ⊥) → b ≡ false
+    no true f = absurd (f refl)
+    no false f = refl
+
+    closing : (p : Option Plan) (d : Dossier) → DossierInRange p d
+        → (periodsSays (ledgerOf d) ends size .number ≡ endsWrong) ↔ (EndsInRange (d .opening .head .firstYear) (d .opening .head .years) ends → ⊥)
+    closing p d h =
+        let fifteen = periods-fifteen (ledgerOf d) ends size in
+        let range = in-range-sound p d h ends in (
+          (λ z r. let e : false ≡ true = sym (fifteen .0 z) ∙ range .1 r in let z : _≡_ {A = ℕ} 0 1 = cc in omega arith),
+          λ f. fifteen .1 (no (sound (ledgerOf d) ends) (λ e. f (range .0 e))),
+        )
+
+reckoning-short : (s plan ends : List ℕ) (size : ℕ) → Bytes s → Bytes plan
+    → (reckonNumber s plan ends size ≡ bufferTooShort) ↔ BothWellFormed s plan (λ first n. EndsInRange first n ends × (size < 64 * n + 32 + 8 * length ends))
+reckoning-short s plan ends size b bp = last-number bufferTooShort tt s plan ends size b bp _ closing
+  where
+    closing : (p : Option Plan) (d : Dossier) → DossierInRange p d
+        → (periodsSays (ledgerOf d) ends size .number ≡ bufferTooShort)
+        ↔ (EndsInRange (d .opening .head .firstYear) (d .opening .head .years) ends × (size < 64 * d .opening .head .years + 32 + 8 * length ends))
+    closing p d h =
+        let ten = periods-ten (ledgerOf d) ends size in
+        let range = in-range-sound p d h ends in (
+          (λ z. let (e, short) = ten .0 z in (range .0 e, omega (arith, given-all p d h))),
+          λ (r, short). ten .1 (range .1 r, omega (arith, given-all p d h)),
+        )
 
 -- an accepted dossier has at most 20 years
 refusal-printed : (s : List ℕ) → Bytes s → (reckonNumber s [] [] 1312 ≡ 0 → ⊥) → printout s ≡ refusalOf (reckonNumber s [] [] 1312)
@@ -178,7 +209,7 @@ refusal-printed s b h = go (dossier none s) refl
     go (accepted d rest) e =
         let w = dossier-accepted none tt .sound s b d rest e in
         let few = w .0 .opening .head .count .most in
-        absurd (h (number-zero s [] [] b (λ k. lit< tt) 1312 .0 (none, (tt, refl), (d, w .0, w .1, ends-judged _ _ few [] .0 (unfold endsFit in refl), omega arith))))
+        absurd (h (number-zero s [] [] b (λ k. lit< tt) 1312 .0 (none, (tt, refl), (d, w .0, w .1, ends-judged _ _ few [] .0 (unfold endsSound in refl), omega arith))))
 
 pub refusals-leave : RefusalsLeave
 refusals-leave = record {
@@ -194,5 +225,6 @@ refusals-leave = record {
   yearPlan = year-plan;
   reckoningPlan = reckoning-plan;
   reckoningEnds = reckoning-ends;
+  reckoningShort = reckoning-short;
   printing = refusal-printed;
 }

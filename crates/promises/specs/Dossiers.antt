@@ -31,7 +31,7 @@ yearCalls plan years = map (λ (y : Year). giving (yearBytes y) plan) years
 
 -- the bytes of the whole reckoning with a list of period ends: demands 2 and 3 of them, what they say of the tonnes issued, and that all before these is
 -- as with no list
-pub record OwnAssured (s plan : List ℕ) (d : Dossier) (ends buffer : List ℕ) : Type 0 where
+pub record ReckoningAssured (s plan : List ℕ) (d : Dossier) (ends buffer : List ℕ) : Type 0 where
   pub reported : Reported (settled (d .opening)) (d .years) (reckonBuffer s plan ends buffer)
   pub periods : PeriodsReported (d .opening .head .firstYear) (length (d .years)) ends (reckonBuffer s plan ends buffer)
   pub without : take (64 * length (d .years) + 32) (reckonBuffer s plan ends buffer) ≡ take (64 * length (d .years) + 32) (reckonBuffer s plan [] buffer)
@@ -47,7 +47,7 @@ pub record DossierAssured (s plan : List ℕ) (d : Dossier) : Type 0 where
   pub list : ListAssured (openingBytes (d .opening)) (yearCalls plan (d .years))
   pub same : SameInPieces s plan (openingBytes (d .opening)) (yearCalls plan (d .years))
   pub own : (ends : List ℕ) → EndsInRange (d .opening .head .firstYear) (length (d .years)) ends
-      → (buffer : List ℕ) → 64 * length (d .years) + 32 + 8 * length ends ≤ length buffer → OwnAssured s plan d ends buffer
+      → (buffer : List ℕ) → 64 * length (d .years) + 32 + 8 * length ends ≤ length buffer → ReckoningAssured s plan d ends buffer
   pub printed : plan ≡ [] → printout s ≡ sheetOf (d .opening .head .firstYear) (length (d .years)) (reckonBuffer s [] [] (replicate 1312 0))
 
 -- what the number 0 says of the dossier, the plan, the list and the size of the buffer that the whole reckoning was lent

@@ -1,6 +1,6 @@
 pub mod CallList
-pub mod Refusals
 pub mod Accepted
+pub mod Refusals
 pub mod Values
 pub mod Reported
 pub mod Periods

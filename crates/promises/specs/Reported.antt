@@ -1,4 +1,4 @@
--- Demands 2 and 3 of one closing: what the bytes that it wrote say.
+-- Demands 2 and 3 of one closing, or of the whole reckoning: what the bytes that it wrote say.
 -- To be believed. Assumes nothing.
 use Prim.Native.Nat.{ℕ, _+_, _*_, _<_}
 use mathlib.Core.Path.{_≡_}
@@ -41,7 +41,7 @@ pub record RegionReported (y start : ℕ) (figure : ℤ) (region : Region) (unro
   pub decoded : figure ≡ pos (region .balance .0)
   pub assured : RegionAssured y start (region .areas) (region .balance .0) unrounded
 
--- the bytes of a closing after accepted years that followed an opening, for what the opening settled (opened): the eight figures of each year from its own
+-- the bytes of a closing, or of the whole reckoning, after accepted years that followed an opening, for what the opening settled (opened): the eight figures of each year from its own
 -- records; the total, which is the sum of credited ("Period total = sum of credited"), and its tonnes; the total against the unrounded one; the balances
 -- against the projected areas
 pub record Reported (opened : Settled) (years : List Year) (closed : List ℕ) : Type 0 where

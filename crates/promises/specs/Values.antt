@@ -12,8 +12,8 @@ use Rattle.reckoner.specs.Calls.{Said, closeSays, closedBuffer, HandedBack, dos
 
 -- "per year the eight figures .., then total, tonnes, project balance, belt balance", and the tonnes issued at each end (#107): an acceptance says so many
 -- values, a refusal none, and the values said are those read back from the buffer, in their order
-pub record Told (years ends : ℕ) (says : Said) (buffer : List ℕ) : Type 0 where
-  pub accepted : says .number ≡ 0 → length (says .values) ≡ 8 * years + 4 + ends
+pub record Told (years issues : ℕ) (says : Said) (buffer : List ℕ) : Type 0 where
+  pub accepted : says .number ≡ 0 → length (says .values) ≡ 8 * years + 4 + issues
   pub refused : (says .number ≡ 0 → ⊥) → says .values ≡ []
   pub decoded : (i : ℕ) → i < length (says .values) → figureAt buffer (8 * i) ≡ getD (says .values) i (pos 0)
 

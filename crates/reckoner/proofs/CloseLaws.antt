@@ -6,7 +6,7 @@ use mathlib.Core.Bool.{Bool, true, false, cond}
 use mathlib.Core.Logic.{_↔_}
 use mathlib.Core.List.{List, []}
 use native.Mathlib.Omega.{arith}
-use borrow.Author.Tests.{lt-ltb, le-ltb, ltb-false}
+use borrow.Author.Tests.{lt-ltb, le-ltb, ltb-true, ltb-false}
 use lib.ListN.{length, length-append}
 use lib.Seq.{sets}
 use Rattle.wire.specs.Signed.{figuresBytes, written}
@@ -14,7 +14,7 @@ use Rattle.wire.proofs.SignedLaws.{written-more}
 use Rattle.report.specs.Report.{reported}
 use Rattle.report.proofs.ReportLaws.{length-years}
 use Rattle.dossier.specs.Causes.{bufferTooShort, endsWrong}
-use Rattle.periods.specs.Periods.{endsFit, creditedIn, issuedTonnes}
+use Rattle.periods.specs.Periods.{endsSound, creditedIn, issuedTonnes}
 use Rattle.periods.specs.Ranges.{SmallYears}
 use Rattle.periods.proofs.IssuedLaws.{count-issued}
 use Rattle.reckoner.specs.declared.Ledger.{Ledger}
@@ -47,7 +47,7 @@ report-count l k = rw length-append (omega (arith, length-years (l .given) (l .f
 
 -- ---- with a list: 15, 10, or the numbers written
 abbrev pub sound : Ledger → List ℕ → Bool
-sound l ends = endsFit (firstYear l) (l .given) ends
+sound l ends = endsSound (firstYear l) (l .given) ends
 
 -- 15 just where the list is not sound, whatever the buffer
 pub periods-fifteen : (l : Ledger) (ends : List ℕ) (size : ℕ) → (periodsSays l ends size .number ≡ endsWrong) ↔ (sound l ends ≡ false)
@@ -58,6 +58,19 @@ periods-fifteen l ends size = (go (sound l ends) (tooShort (l .given) (length en
     go true true h = absurd (omega arith)
     go true false h = absurd (omega arith)
     go false c h = refl
+
+-- 10 just where it is, and the buffer is too short
+pub periods-ten : (l : Ledger) (ends : List ℕ) (size : ℕ)
+    → (periodsSays l ends size .number ≡ bufferTooShort) ↔ ((sound l ends ≡ true) × (size < 64 * l .given + 32 + 8 * length ends))
+unfolding periodsAnswer
+periods-ten l ends size = (go (sound l ends) (tooShort (l .given) (length ends) size) refl, λ (e, h). rw (e, lt-ltb size (64 * l .given + 32 + 8 * length ends) h))
+  where
+    go : (b c : Bool) → tooShort (l .given) (length ends) size ≡ c
+        → said (cond b (cond c (Answer.Refused bufferTooShort) Answer.Accepted) (Answer.Refused endsWrong)) (periodsReport l ends) .number ≡ bufferTooShort
+        → (b ≡ true) × (size < 64 * l .given + 32 + 8 * length ends)
+    go true true e h = (refl, ltb-true size (64 * l .given + 32 + 8 * length ends) e)
+    go true false e h = absurd (omega arith)
+    go false c e h = absurd (omega arith)
 
 module _ (l : Ledger) (ends buffer : List ℕ) where
   pub periods-wrong : sound l ends ≡ false → (endsWrong ≡ periodsSays l ends (length buffer) .number) × (buffer ≡ periodsBuffer l ends buffer)
@@ -101,17 +114,17 @@ periods-zero l ends size = (go (sound l ends) (tooShort (l .given) (length ends)
 pub close-zero : (l : Ledger) (size : ℕ) → (closeSays l size .number ≡ 0) ↔ (64 * l .given + 32 ≤ size)
 close-zero l size =
     let x = periods-zero l [] size in
-    ((λ h. omega (arith, x .0 h .1)), λ h. x .1 (unfold endsFit in refl, omega arith))
+    ((λ h. omega (arith, x .0 h .1)), λ h. x .1 (unfold endsSound in refl, omega arith))
 
 module _ (l : Ledger) (size n : ℕ) (e : n ≡ closeSays l size .number) where
   pub close-no : (n ≡ 0 → ⊥) → record { ledger = l; answer = Answer.Refused n } ≡ closeCall l size
-  unfolding closeCall periodsAnswer endsFit
+  unfolding closeCall periodsAnswer endsSound
   close-no f =
       let short : 64 * l .given + 32 ≤ size → ⊥ = λ h. f (e ∙ close-zero l size .1 h) in
       rw (e, lt-ltb size (64 * l .given + 32 + 8 * 0) (omega arith))
 
   pub close-yes : n ≡ 0 → record { ledger = l; answer = Answer.Accepted } ≡ closeCall l size
-  unfolding closeCall periodsAnswer endsFit
+  unfolding closeCall periodsAnswer endsSound
   close-yes f = let h = close-zero l size .0 (sym e ∙ f) in rw (le-ltb size (64 * l .given + 32 + 8 * 0) (omega arith))
 
 -- ---- the whole reckoning from the dossier's ledger

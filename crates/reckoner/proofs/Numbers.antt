@@ -1,6 +1,6 @@
 -- The number of the whole reckoning: when it is 0, and which bytes settle it; and which numbers each call can give.
 -- Assumes nothing.
-use Prim.Native.Nat.{ℕ, _+_, _*_, _≤_, _<_}
+use Prim.Native.Nat.{ℕ, _+_, _*_, _≤_}
 use mathlib.Core.Path.{_≡_, refl, _∙_, ap, sym}
 use mathlib.Core.Bool.{Bool, true, false, cond}
 use mathlib.Core.Logic.{_↔_, inl, inr}
@@ -14,7 +14,7 @@ use Rattle.figures.specs.Reckoning.{afterFigures, afterYear}
 use Rattle.dossier.specs.Plan.{Plan}
 use Rattle.dossier.specs.Records.{stateOf, Dossier, DossierInRange, dossierBytes, Opening, WellFormedPlan}
 use Rattle.dossier.specs.Claims.{numberOf}
-use Rattle.dossier.specs.Causes.{bufferTooShort, endsWrong, planNotOfForm, causes, openingCauses, yearCauses, closingCauses, _∈_, ZeroOr}
+use Rattle.dossier.specs.Causes.{bufferTooShort, endsWrong, planNotOfForm, causes, openingCauses, yearCauses, closingCauses, ZeroOr}
 use Rattle.dossier.specs.Reader.{Judged, refused, accepted}
 use Rattle.dossier.specs.Judging.{dossier, openingPiece, yearPiece}
 use Rattle.dossier.specs.JudgingPlan.{lentPlan, under}
@@ -23,7 +23,7 @@ use Rattle.dossier.proofs.Causes.{openingPiece-causes}
 use Rattle.dossier.proofs.WellFormed.{dossier-accepted, plan-accepted}
 use Rattle.dossier.proofs.UnderLaws.{under-accepted, yearPiece-under-causes, dossier-under-causes, under-first-bytes}
 use Rattle.dossier.proofs.Numbers.{under-zero}
-use Rattle.periods.specs.Periods.{EndsInRange, endsFit}
+use Rattle.periods.specs.Periods.{EndsInRange, endsSound}
 use Rattle.periods.proofs.EndsLaws.{ends-judged}
 use Rattle.reckoner.specs.declared.Ledger.{Ledger}
 use Rattle.reckoner.specs.declared.Answer.{Answer}
@@ -64,7 +64,7 @@ number-accepted s planned ends size d rest e = rw (reckonNumber, e)
 
 -- the list is judged against the dossier's years
 pub sound-years : (plan : Option Plan) (d : Dossier) → DossierInRange plan d → (ends : List ℕ)
-    → sound (ledgerOf d) ends ≡ endsFit (d .opening .head .firstYear) (d .opening .head .years) ends
+    → sound (ledgerOf d) ends ≡ endsSound (d .opening .head .firstYear) (d .opening .head .years) ends
 sound-years plan d h ends = rw (first-is plan d h, given-all plan d h)
 
 -- 0 just where the plan is well formed, the dossier is under it, the list is in range for its years, and the buffer holds 64 × n + 32 bytes and 8 for
@@ -115,7 +115,7 @@ year-numbers l piece plan = go (under plan (λ p. yearPiece (dueOf p l)) piece) 
     go (accepted y rest) e = inl refl
 
 pub close-numbers : (l : Ledger) (size : ℕ) → ZeroOr closingCauses (closeSays l size .number)
-unfolding periodsAnswer endsFit
+unfolding periodsAnswer endsSound
 close-numbers l size = go (tooShort (l .given) 0 size)
   where
     go : (b : Bool) → ZeroOr closingCauses (said (cond b (Answer.Refused bufferTooShort) Answer.Accepted) (periodsReport l []) .number)

@@ -14,7 +14,7 @@ use Rattle.dossier.specs.Records.{Opening, Dossier}
 use Rattle.dossier.specs.Reader.{Judged, refused, accepted}
 use Rattle.dossier.specs.Judging.{dossier, openingPiece, yearPiece}
 use Rattle.dossier.specs.JudgingPlan.{under}
-use Rattle.periods.specs.Periods.{endsFit, creditedIn, issuedTonnes}
+use Rattle.periods.specs.Periods.{endsSound, creditedIn, issuedTonnes}
 use Rattle.reckoner.specs.declared.Ledger.{Ledger}
 use Rattle.reckoner.specs.declared.Answer.{Answer}
 use Rattle.reckoner.specs.declared.Step.{Step}
@@ -61,13 +61,13 @@ yearCall l piece plan = yearJudged l (under plan (λ p. yearPiece (dueOf p l)) p
 
 -- ---- closing, with a list of period ends (#107)
 -- "buffer under 64 × n + 32 bytes"; "64 bits per listed end, and 10 counts them"
-abbrev pub tooShort : (n ends size : ℕ) → Bool
-tooShort n ends size = ltb size (64 * n + 32 + 8 * ends)
+abbrev pub tooShort : (n issues size : ℕ) → Bool
+tooShort n issues size = ltb size (64 * n + 32 + 8 * issues)
 
 -- "15 for a bad list, judged after the dossier"; "10 comes last"
 unfoldable pub periodsAnswer : Ledger → (ends : List ℕ) (size : ℕ) → Answer
 periodsAnswer l ends size =
-    cond (endsFit (firstYear l) (l .given) ends)
+    cond (endsSound (firstYear l) (l .given) ends)
     (cond (tooShort (l .given) (length ends) size) (Answer.Refused bufferTooShort) Answer.Accepted)
     (Answer.Refused endsWrong)
 

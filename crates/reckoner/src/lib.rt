@@ -70,11 +70,11 @@ fn write_ledger(ledger: Ledger, ends: &[u16], result: &mut [u8]) -> u8
 {
     let k = ledger.given;
     let first = ledger.first_year();
-    if !periods::fit(ends, first, k) {
+    if !periods::sound(ends, first, k) {
         return 15;
     }
-    let end = 64 * (k as usize) + 32;
-    if result.len() < end + 8 * ends.len() {
+    let length = 64 * (k as usize) + 32;
+    if result.len() < length + 8 * ends.len() {
         return 10;
     }
     let figures = ledger.figures;
@@ -82,7 +82,7 @@ fn write_ledger(ledger: Ledger, ends: &[u16], result: &mut [u8]) -> u8
     let balance = state.project.balance;
     let belt = state.belt.balance;
     report::write_report(figures, k, state.total, balance, belt, result);
-    periods::write_issued(figures, k, first, ends, result, end);
+    periods::write_issued(figures, k, first, ends, result, length);
     0
 }
 
@@ -302,7 +302,8 @@ impl Ledger {
     }
 }
 
-// The whole reckoning of a dossier, under a plan or none, with a list of period ends or none: its number, 0 where it is accepted, and then the report in the buffer.
+// The whole reckoning of a dossier, under a plan or none, with a list of period ends or none: its number, 0 where it is accepted.
+// Then the report stands in the buffer, and after it the tonnes issued at each end.
 pub fn reckon<'a>(dossier: &'a [u8], plan: &'a [u8], ends: &[u16], result: &mut [u8]) -> u8
     ensures { λ r. ⌜ r ≡ reckonNumber (now (dossier .entry)) (now (plan .entry)) (now (ends .entry)) (length (now (result .entry))) ⌝ }
     ensures { λ r. ⌜ now (result .exit) ≡ reckonBuffer (now (dossier .entry)) (now (plan .entry)) (now (ends .entry)) (now (result .entry)) ⌝ }

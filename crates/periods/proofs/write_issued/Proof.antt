@@ -12,7 +12,7 @@ use Rattle.classes.specs.declared.Grams.{Grams}
 use Rattle.wire.specs.Signed.{figuresBytes}
 use Rattle.periods.specs.Periods.{creditedIn, issuedAfter}
 use Rattle.periods.specs.Ranges.{SmallYears, keptAt}
-use Rattle.periods.proofs.EndsLaws.{fit-inside}
+use Rattle.periods.proofs.EndsLaws.{sound-inside}
 use Rattle.periods.proofs.RunningLaws.{kept-fits, totals-same}
 use Rattle.periods.proofs.IssuedLaws.{none-stored, issued-fits, issued-turn, stored-turn, all-issued}
 use Rattle.periods.proofs.write_issued.Statement.{statement}
@@ -56,7 +56,7 @@ inside : (c : tie.After-shared-slice-known2 Inv-loop μ-loop) → let at-loop = 
     (given .first ≤ getD (given .ends .now) (at-loop .loop .i) 0) × (getD (given .ends .now) (at-loop .loop .i) 0 < given .first + given .k)
 inside c =
     let at-loop = turn c .before in
-    fit-inside _ _ _ (at-start (at-loop .before) .pre .0 .1) _ (turn c .loop-test .taken)
+    sound-inside _ _ _ (at-start (at-loop .before) .pre .0 .1) _ (turn c .loop-test .taken)
 
 years-small : (c : tie.After-running-totals Inv-loop μ-loop) → SmallYears (at-start c .args .k) (at-start c .args .figures)
 years-small c = at-start c .pre .0 .0
@@ -153,7 +153,7 @@ returns-2 c =
     let t = at-loop .before in
     let given = at-start t .args in
     let done = all-issued _ (given .ends .now) (at-loop .loop .i) _ _ (f .done) (omega arith) (f .rest) in
-    let same = totals-same (given .first) (given .k) _ _ (t .running-totals .ensures .at) (given .ends .now) (fit-inside _ _ _ (at-start t .pre .0 .1)) in
+    let same = totals-same (given .first) (given .k) _ _ (t .running-totals .ensures .at) (given .ends .now) (sound-inside _ _ _ (at-start t .pre .0 .1)) in
     f .content ∙ ap (λ (zs : List ℤ). sets (given .buffer .now) (given .at) (figuresBytes zs)) (sym done ∙ ap (issuedAfter (pos 0)) same)
 
 pub write-issued-spec : {M : Type 1} → statement M
