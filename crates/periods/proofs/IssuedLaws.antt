@@ -5,7 +5,7 @@ use mathlib.Core.Path.{_≡_, refl, _∙_, ap, sym}
 use mathlib.Core.List.{List, [], _∷_, _++_, map, append-assoc, append-nil}
 use native.Mathlib.Numerals.{add-one}
 use native.Mathlib.Omega.{arith}
-use lib.IntN.{ℤ, pos, _+ℤ_}
+use lib.IntN.{ℤ, pos, _+ℤ_, _-ℤ_}
 use lib.Signed.{mag}
 use lib.ListN.{length, drop, getD, length-map}
 use lib.Seq.{sets, drop-cons, drop-length}
@@ -13,6 +13,7 @@ use mir.Syntax.{w64}
 use mir.Val.{toZ, ofZ}
 use mir.Facts.{toZ-ofZ}
 use borrow.Author.Needs.{sfits-of}
+use Rattle.arithmetic.specs.Rounding.{positivePart}
 use Rattle.arithmetic.proofs.IntegerLaws.{positive-difference}
 use Rattle.wire.specs.Signed.{figureBytes, figuresBytes}
 use Rattle.wire.proofs.SignedLaws.{stored-one}
@@ -23,7 +24,7 @@ use Rattle.periods.specs.Periods.{issuedNow, issuedAfter, totalsAt, issu
 -- at one end
 pub issued-now : (before tonnes : ℕ) (total : ℤ) → tonnes ≡ tonnesOf total → issuedNow (pos before) total ≡ pos (tonnes - before)
 unfolding issuedNow
-issued-now before tonnes total e = rw (← e) (positive-difference tonnes before)
+issued-now before tonnes total e = ap (λ (t : ℕ). positivePart (pos t -ℤ pos before)) (sym e) ∙ positive-difference tonnes before
 
 pub length-issued : (before : ℤ) (totals : List ℤ) → length (issuedAfter before totals) ≡ length totals
 unfolding issuedAfter
