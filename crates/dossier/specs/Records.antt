@@ -225,8 +225,8 @@ pub record DossierInRange (plan : Option Plan) (d : Dossier) : Type 0 where
 unfoldable pub dossierBytes : Dossier → List ℕ
 dossierBytes d = joined (openingBytes (d .opening) ∷ joined (map yearBytes (d .years)) ∷ bytes 2 EN ∷ [])
 
--- well formed: the bytes of records in range, and nothing else. A dossier with n years from first on, under a plan; an opening piece; a year piece, for what is due;
--- and what is lent as a plan, "Zero bytes mean no plan"
+-- well formed: the bytes of records in range, and nothing else. A dossier with n years from first on, under a plan; an opening piece; a year piece, for
+-- what is due; and what is lent as a plan, "Zero bytes mean no plan"
 abbrev pub WellFormedYears : (first n : ℕ) → Option Plan → List ℕ → Type 0
 WellFormedYears first n plan s = (d : Dossier) × DossierInRange plan d × (s ≡ dossierBytes d) × (d .opening .head .firstYear ≡ first) × (length (d .years) ≡ n)
 

@@ -48,7 +48,8 @@ caseA = record {
   } ∷ [];
 }
 
--- the whole reckoning of its bytes, with no plan, no list and a buffer of 255 throughout and four bytes longer than the report: a zero that is not written shows
+-- the whole reckoning of its bytes, with no plan, no list and a buffer of 255 throughout and four bytes longer than the report: a zero that is not
+-- written shows
 unfoldable pub bufferA : List ℕ
 bufferA = reckonBuffer (dossierBytes caseA) [] [] (replicate 100 255)
 

@@ -41,9 +41,9 @@ pub record RegionReported (y start : ℕ) (figure : ℤ) (region : Region) (unro
   pub decoded : figure ≡ pos (region .balance .0)
   pub assured : RegionAssured y start (region .areas) (region .balance .0) unrounded
 
--- the bytes of a closing, or of the whole reckoning, after accepted years that followed an opening, for what the opening settled (opened): the eight figures of each year from its own
--- records; the total, which is the sum of credited ("Period total = sum of credited"), and its tonnes; the total against the unrounded one; the balances
--- against the projected areas
+-- the bytes of a closing, or of the whole reckoning, after accepted years that followed an opening, for what the opening settled (opened): the eight
+-- figures of each year from its own records; the total, which is the sum of credited ("Period total = sum of credited"), and its tonnes; the total against
+-- the unrounded one; the balances against the projected areas
 pub record Reported (opened : Settled) (years : List Year) (closed : List ℕ) : Type 0 where
   pub figures : (k j : ℕ) → k < length years → j < 8
       → figureAt closed (64 * k + 8 * j) ≡ getD (eight (getD (yearsFigures (opened .terms) (opened .state .project) (opened .state .belt) years) k noFigures)) j (pos 0)

@@ -75,6 +75,7 @@ periodsAnswer l ends size =
 abbrev pub periodsReport : Ledger → (ends : List ℕ) → List ℤ
 periodsReport l ends = report l ++ issuedTonnes (firstYear l) (creditedIn (l .figures)) ends
 
+-- and what is said
 abbrev pub periodsSays : Ledger → (ends : List ℕ) (size : ℕ) → Said
 periodsSays l ends size = said (periodsAnswer l ends size) (periodsReport l ends)
 
