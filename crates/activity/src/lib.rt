@@ -1,4 +1,6 @@
 // Activity records and their emissions.
+#![tactic(auto)]
+
 ghost use Rattle.std.specs.Prelude.{◌≡◌, ◌*◌, ◌≤◌, pos};
 ghost use Rattle.arithmetic.specs.Rounding.{ceil_div};
 ghost use Rattle.activity.specs.declared.Activity.TheVariants.{Residue};
@@ -8,14 +10,14 @@ ghost use Rattle.activity.specs.Key.{two_words, key as key_of};
 use classes::Grams;
 
 // Residues above or below the ground: their ratio to the yield, in hundredths, and their nitrogen content, in ten-thousandths.
-#[derive(Drop)]
+#[derive(Clone, Copy)]
 pub struct Part {
     pub ratio: u64,
     pub content: u64,
 }
 
 // A nitrogen-fixing crop, by the fields of CR: the area in ha, the yield (harvest) in kg of dry matter per ha, the renewed share in ten-thousandths.
-#[derive(Drop)]
+#[derive(Clone, Copy)]
 pub struct FixingCrop {
     pub crop: u64,
     pub area: u64,
@@ -26,7 +28,7 @@ pub struct FixingCrop {
 }
 
 // An activity record: FU, VE, NI, LI or CR, by its fields.
-#[derive(Drop)]
+#[derive(Clone, Copy)]
 pub enum Activity {
     Fuel {
         kind: u64,
@@ -162,6 +164,7 @@ fn residue_emissions(r: FixingCrop) -> Grams
 }
 
 // A record's grams of CO2, rounded up by itself.
+#[tactic(auto, unfolding(crate::specs::Activity::activity_grams, crate::specs::Activity::denominator, crate::specs::Activity::numerator))]
 pub fn emissions(activity: Activity) -> Grams
     requires { ActivityInRange activity }
     ensures { result.0 ≡ pos (activity_grams activity) }
@@ -193,6 +196,7 @@ fn two_words(low: u64, high: u64) -> Words
 }
 
 // CR as two numbers: area and yield alone are the high one.
+#[tactic(auto, unfolding(crate::specs::Key::key))]
 fn residue_key(r: FixingCrop) -> Words
     requires { ActivityInRange (Residue r) }
     ensures { result ≡ key_of (Residue r) }
@@ -206,6 +210,7 @@ fn residue_key(r: FixingCrop) -> Words
 }
 
 // A record in range as two numbers, which tell the record: its fields, and which of the five it is.
+#[tactic(auto, unfolding(crate::specs::Key::key))]
 pub fn key(activity: Activity) -> Words
     requires { ActivityInRange activity }
     ensures { result ≡ key_of activity }

@@ -1,9 +1,12 @@
 // Division rounded up, and the size of a signed number.
+#![tactic(auto)]
+
 ghost use Rattle.std.specs.Prelude.{◌≡◌, ◌+◌, ◌-◌, ◌^◌, ◌≤◌, ◌<◌};
 ghost use Rattle.std.specs.Int.Signed.{mag};
 ghost use Rattle.arithmetic.specs.Rounding.{ceil_div};
 
 // n ÷ d, rounded up.
+#[tactic(auto, unfolding(crate::specs::Rounding::ceil_div))]
 pub fn divided_up(n: u64, d: u64) -> u64
     requires { (1 ≤ d) × (n + (d - 1) < 2 ^ 64) }
     ensures { result ≡ ceil_div n d }

@@ -1,6 +1,6 @@
 -- Document 01, "Unrounded reckoning": fractions throughout, rounding nowhere. The ᶠ marks what is a fraction.
 -- To be believed. Assumes nothing.
-use Rattle.std.specs.Prelude.{ℕ, ◌*◌, ◌<◌, cond, List, [], ◌∷◌, pos}
+use Rattle.std.specs.Prelude.{ℕ, ◌*◌, cond, List, [], ◌∷◌, pos}
 use Rattle.std.proofs.Common.{lit<}
 use Rattle.std.specs.Int.Signed.{non_neg}
 use Rattle.arithmetic.specs.Fraction.{Fraction, whole, ◌+ᶠ◌, ◌-ᶠ◌, ◌×ᶠ◌, ◌÷ᶠ◌by◌, if_positive, fraction_sum}

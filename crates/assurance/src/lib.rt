@@ -1,1 +1,2 @@
 // The unrounded reckoning and what demand 3 assures: definitions in specs/, theorems in proofs/.
+#![tactic(auto)]

@@ -1,4 +1,6 @@
 // Units, land use classes and their constant tables, and the calendar.
+#![tactic(auto)]
+
 ghost use Rattle.std.specs.Prelude.{◌≡◌, ◌+◌, ◌-◌, ◌^◌, ◌≤◌, ◌<◌, length, pos, ◌+ℤ◌, ◌-ℤ◌};
 ghost use Rattle.std.specs.Int.{w64};
 ghost use Rattle.std.proofs.Common.{SFits};
@@ -8,15 +10,15 @@ ghost use Rattle.classes.specs.Rows.{with_row};
 ghost use Rattle.classes.specs.Calendar.{days_in_year};
 
 // An area, in millionths of a hectare.
-#[derive(Drop)]
+#[derive(Clone, Copy)]
 pub struct AreaUnits(pub u64);
 
 // Carbon, in units of 10^-8 tC.
-#[derive(Drop)]
+#[derive(Clone, Copy)]
 pub struct CarbonUnits(pub u64);
 
 // CO2 (of fertilizer CO2-equivalent), in grams.
-#[derive(Drop)]
+#[derive(Clone, Copy)]
 pub struct Grams(pub i64);
 
 // Tree plantation, pine plantation and non-forest: their places among the twelve classes.
@@ -108,6 +110,7 @@ impl Grams {
 }
 
 // Fills a list with the built-in carbon stocks, class by class.
+#[tactic(auto, unfolding(arithmetic::specs::Sum::listed, crate::specs::Classes::carbon_stocks))]
 pub fn fill_carbon_stocks(stocks: &mut [u64; 12])
     requires { length stocks.old ≡ 12 }
     ensures { stocks.new ≡ carbon_stocks }
@@ -120,6 +123,7 @@ pub fn fill_carbon_stocks(stocks: &mut [u64; 12])
 }
 
 // The emission factor from class i to class j.
+#[tactic(auto, unfolding(crate::specs::Classes::emission_factor))]
 fn emission_factor(stocks: &[u64; 12], i: usize, j: usize) -> u64
     requires i_bound { i < 12 }
     requires j_bound { j < 12 }
@@ -137,6 +141,7 @@ fn emission_factor(stocks: &[u64; 12], i: usize, j: usize) -> u64
 }
 
 // Stores the emission factors from class i as row i of a table.
+#[tactic(auto, unfolding(arithmetic::specs::Sum::listed))]
 fn fill_factor_row(factors: &mut [u64; 144], stocks: &[u64; 12], i: usize)
     requires { i < 12 }
     ensures { factors.new ≡ with_row factors.old i (emission_factor stocks.now i) }
@@ -149,6 +154,7 @@ fn fill_factor_row(factors: &mut [u64; 144], stocks: &[u64; 12], i: usize)
 }
 
 // Fills a table with the emission factors of all pairs of classes.
+#[tactic(auto, unfolding(arithmetic::specs::Sum::listed))]
 pub fn fill_factors(factors: &mut [u64; 144], stocks: &[u64; 12])
     requires { length factors.old ≡ 144 }
     ensures { factors.new ≡ table_of (emission_factor stocks.now) }
@@ -161,6 +167,7 @@ pub fn fill_factors(factors: &mut [u64; 144], stocks: &[u64; 12])
 }
 
 // Option 1's probability from class i to class j.
+#[tactic(auto, using(crate::proofs::MatrixLaws::deforestation_le), unfolding(crate::specs::Matrix::option_one, crate::specs::Classes::deforestation_probabilities))]
 fn option_one(i: usize, j: usize) -> u64
     requires { i < 12 }
     ensures { result ≡ option_one i j }
@@ -176,6 +183,7 @@ fn option_one(i: usize, j: usize) -> u64
 }
 
 // Stores Option 1's probabilities from class i as row i of a matrix.
+#[tactic(auto, unfolding(arithmetic::specs::Sum::listed))]
 fn fill_option_one_row(matrix: &mut [u64; 144], i: usize)
     requires { i < 12 }
     ensures { matrix.new ≡ with_row matrix.old i (option_one i) }
@@ -188,6 +196,7 @@ fn fill_option_one_row(matrix: &mut [u64; 144], i: usize)
 }
 
 // Fills a matrix with Option 1's probabilities.
+#[tactic(auto, unfolding(arithmetic::specs::Sum::listed, crate::specs::Matrix::option_one_matrix))]
 pub fn fill_option_one(matrix: &mut [u64; 144])
     requires { length matrix.old ≡ 144 }
     ensures { matrix.new ≡ option_one_matrix }
@@ -200,6 +209,7 @@ pub fn fill_option_one(matrix: &mut [u64; 144])
 }
 
 // The days of a Gregorian year.
+#[tactic(auto, unfolding(crate::specs::Calendar::days_in_year))]
 pub fn days_in_year(year: u64) -> u64
     ensures { result ≡ days_in_year year }
 {

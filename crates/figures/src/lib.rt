@@ -1,4 +1,6 @@
 // The tables of factors, and the figures of a year; the values that an opening settles and that years change.
+#![tactic(auto)]
+
 ghost use Rattle.std.specs.Prelude.{◌≡◌, ◌≤◌, ◌<◌, cond, eqb, length, pos};
 ghost use Rattle.std.specs.Int.Signed.{mag};
 ghost use Rattle.classes.specs.Classes.{class_nf, emission_factor};
@@ -13,7 +15,7 @@ use classes::{AreaUnits, CarbonUnits, Grams};
 use projection::Region;
 
 // What an opening settles and no year changes: the option, the carbon stocks and the matrix in use, and the starting areas of project and belt.
-#[derive(Drop)]
+#[derive(Clone, Copy)]
 pub struct Terms {
     pub option: u64,
     pub stocks: [u64; 12],
@@ -23,7 +25,7 @@ pub struct Terms {
 }
 
 // What years change: the year that is due, the years left, both regions, and the total credited.
-#[derive(Drop)]
+#[derive(Clone, Copy)]
 pub struct State {
     pub year: u64,
     pub left: u64,
@@ -33,7 +35,7 @@ pub struct State {
 }
 
 // The eight figures of a year, in the order in which they are reported.
-#[derive(Drop)]
+#[derive(Clone, Copy)]
 pub struct Figures {
     pub reference: Grams,
     pub project: Grams,
@@ -62,14 +64,14 @@ pub fn no_figures() -> Figures
 }
 
 // The carbon of a region in a year: by its projection, and by its monitored conversions.
-#[derive(Drop)]
+#[derive(Clone, Copy)]
 pub struct YearCarbon {
     pub projected: CarbonUnits,
     pub monitored: CarbonUnits,
 }
 
 // The days of operation of a year and the days of its calendar year: d and D of the reference level.
-#[derive(Drop)]
+#[derive(Clone, Copy)]
 pub struct YearDays {
     pub operating: u64,
     pub calendar: u64,
@@ -87,6 +89,7 @@ fn counted_factor(option: u64, factor: u64, j: usize) -> u64
 }
 
 // Stores the factors from class i that count as row i of a table.
+#[tactic(auto, unfolding(arithmetic::specs::Sum::listed, crate::specs::Figures::counted_factor))]
 fn fill_counted_row(counted: &mut [u64; 144], factors: &[u64; 144], option: u64, i: usize)
     requires { i < 12 }
     ensures { counted.new ≡ with_row counted.old i (counted_factor option (entry factors.now) i) }
@@ -99,6 +102,7 @@ fn fill_counted_row(counted: &mut [u64; 144], factors: &[u64; 144], option: u64,
 }
 
 // Fills a table with the factors that count: under Option 1 only those into NF.
+#[tactic(auto, unfolding(arithmetic::specs::Sum::listed))]
 fn fill_counted(counted: &mut [u64; 144], factors: &[u64; 144], option: u64)
     requires { length counted.old ≡ 144 }
     ensures { counted.new ≡ table_of (counted_factor option (entry factors.now)) }
@@ -126,6 +130,7 @@ pub fn fill_factors(
 }
 
 // The reference level of a year of these days. Carbon × 11 × d passes 64 bits, so the quotient of the carbon by the divisor and its remainder are weighed apart.
+#[tactic(auto, unfolding(crate::specs::Figures::reference_level))]
 fn reference_level(carbon: CarbonUnits, days: YearDays) -> Grams
     requires small_carbon { SmallCarbon carbon.0 }
     requires days_of { DaysOf days }
@@ -137,6 +142,7 @@ fn reference_level(carbon: CarbonUnits, days: YearDays) -> Grams
 }
 
 // The emissions of monitored carbon.
+#[tactic(auto, unfolding(crate::specs::Figures::stock_change_emissions))]
 fn stock_change_emissions(carbon: CarbonUnits) -> Grams
     requires { SmallCarbon carbon.0 }
     ensures { result.0 ≡ pos (stock_change_emissions carbon.0) }
@@ -145,6 +151,7 @@ fn stock_change_emissions(carbon: CarbonUnits) -> Grams
 }
 
 // The emissions displaced into the belt: never below 0.
+#[tactic(auto, unfolding(crate::specs::Figures::displaced_emissions))]
 fn displaced_emissions(belt: Grams, reference: Grams) -> Grams
     requires { (mag belt.0 ≤ greatest_emissions) × (mag reference.0 ≤ greatest_emissions) }
     ensures { result.0 ≡ displaced_emissions belt.0 reference.0 }
@@ -157,6 +164,7 @@ fn displaced_emissions(belt: Grams, reference: Grams) -> Grams
 }
 
 // Four fifths of a reduction, rounded down; a negative one whole.
+#[tactic(auto, unfolding(crate::specs::Figures::credited_of))]
 fn credited_part(reduction: Grams) -> Grams
     requires { mag reduction.0 < greatest_figure }
     ensures { result.0 ≡ credited_of reduction.0 }
@@ -168,6 +176,7 @@ fn credited_part(reduction: Grams) -> Grams
 }
 
 // The whole tonnes of a total.
+#[tactic(auto, unfolding(crate::specs::Figures::tonnes_of))]
 pub fn tonnes(total: Grams) -> u64
     ensures { result ≡ tonnes_of total.0 }
 {
@@ -178,6 +187,7 @@ pub fn tonnes(total: Grams) -> u64
 }
 
 // The figures of a year, from the carbon of the project area and of the belt and the emissions of the activity records.
+#[tactic(auto, unfolding(crate::specs::Figures::figures_of, crate::specs::Figures::reduction_of))]
 pub fn year_figures(
     project: YearCarbon,
     belt: YearCarbon,
@@ -208,6 +218,7 @@ pub fn year_figures(
 }
 
 // Whether a year's activity emissions are small enough for planned quantities: below five percent of its project net emissions.
+#[tactic(auto, unfolding(crate::specs::Figures::small_activity))]
 pub fn small_activity(figures: Figures) -> bool
     requires { SmallNet figures }
     ensures { result ≡ small_activity figures }

@@ -6,7 +6,7 @@ use Prim.Native.Nat.{ℕ, ◌+◌, ◌*◌, ◌≤◌, ◌<◌}
 use native.Mathlib.Nat.{zero-lt-suc, le_trans, mul-le-mul_left, mul-le-mul_right, mul_comm, le_of_eq, div-le_of_le-mul}
 use native.Mathlib.Omega.{arith}
 use Rattle.arithmetic.specs.Sum.{sum}
-use Rattle.arithmetic.proofs.SumLaws.{sum_cong, sum-le, sum-mul, sum_part, sum-next, sum_swap, term_le, get_or-listed}
+use Rattle.arithmetic.proofs.SumLaws.{sum_cong, sum-le, sum-mul, sum_part, sum-none, sum-next, sum_swap, term_le, get_or-listed}
 use Rattle.classes.specs.declared.AreaUnits.{AreaUnits}
 use Rattle.classes.specs.Classes.{classes, greatest_stock}
 use Rattle.classes.specs.Matrix.{entry, million}
@@ -24,6 +24,12 @@ next_area_lem areas matrix j h = ap (λ (a : AreaUnits). a.0) (get_or-listed cla
 
 pub next-total : (areas : List AreaUnits) (matrix : List ℕ) → area_total (next_areas areas matrix) ≡ sum classes (next_area areas matrix)
 next-total areas matrix = sum_cong classes (area (next_areas areas matrix)) (next_area areas matrix) (λ j h. next_area_lem areas matrix j h)
+
+-- the next partial sum is at most the whole
+pub area_step : (areas : List AreaUnits) (i : ℕ) → i < 12 → sum i (area areas) + area areas i ≤ area_total areas
+area_step areas i h = omega (arith, sum-next i (area areas), sum_part (i + 1) 12 (area areas) (omega arith))
+
+pub ruleset area_turns = (sum-none, sum-next, area_step)
 
 -- the carbon of all flows, column by column
 pub carbon_columns : (factor : ℕ → ℕ → ℕ) (areas : List AreaUnits) (matrix : List ℕ) → sum classes (inflow_carbon factor areas matrix) ≡ projected_carbon factor areas matrix

@@ -1,4 +1,6 @@
 // The projection of a region, project area or belt, over a year.
+#![tactic(auto)]
+
 ghost use Rattle.std.specs.Prelude.{◌≡◌, ◌*◌, ◌/◌, ◌≤◌, ◌<◌};
 ghost use Rattle.classes.specs.Matrix.{entry, million};
 ghost use Rattle.projection.specs.Projection.{area_total, next_area};
@@ -9,7 +11,7 @@ ghost use Rattle.projection.specs.Inflow.{inflow_carbon, projected_year};
 use classes::{AreaUnits, CarbonUnits};
 
 // The twelve areas of a region by class, and its balance: the area that rounding lost so far.
-#[derive(Drop)]
+#[derive(Clone, Copy)]
 pub struct Region {
     pub areas: [AreaUnits; 12],
     pub balance: AreaUnits,
@@ -46,6 +48,7 @@ pub fn released(area: AreaUnits, factor: u64) -> CarbonUnits
 }
 
 // The flows into class j.
+#[tactic(auto, unfolding(crate::specs::Inflow::inflow_carbon, crate::specs::Projection::next_area))]
 fn flows_into(areas: [AreaUnits; 12], matrix: &[u64; 144], factors: &[u64; 144], j: usize) -> Inflow
     requires small_area { SmallArea (area_total areas) }
     requires rows_within { RowsWithin matrix.now }
@@ -66,6 +69,7 @@ fn flows_into(areas: [AreaUnits; 12], matrix: &[u64; 144], factors: &[u64; 144],
 }
 
 // The total of twelve areas.
+#[tactic(auto, using(crate::proofs::ProjectionLaws::area_turns))]
 fn area_total(areas: [AreaUnits; 12]) -> AreaUnits
     requires { SmallArea (area_total areas) }
     ensures { result.0 ≡ area_total areas }
