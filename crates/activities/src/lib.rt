@@ -1,4 +1,6 @@
 // A year's activity records: FU, VE, NI, LI and CR, each with its emissions, up to 60 of them, two of CR at most, no two equal.
+#![tactic(auto)]
+
 ghost use Rattle.std.specs.Prelude.{◌≡◌, cond, ◌+◌, ◌≤◌, eqb, length, drop};
 ghost use Rattle.activity.specs.Activity.{ranges};
 ghost use Rattle.activity.specs.declared.Activity.TheVariants.{Residue};
@@ -76,6 +78,7 @@ fn read_amount(s: &[u8], at: usize, m: u64) -> ActivityAnswer
 }
 
 // VE from its fields on.
+#[tactic(auto, unfolding(dossier::specs::JudgingRecords::fields_of, dossier::specs::JudgingRecords::in_range, wire::specs::Bytes::total))]
 fn read_vehicles(s: &[u8], at: usize) -> ActivityAnswer
     requires { at ≤ length s.now }
     ensures result_value { activity_says s.now result ≡ fields_of vehicles (drop at s.now) }
@@ -115,6 +118,7 @@ fn read_vehicles(s: &[u8], at: usize) -> ActivityAnswer
 }
 
 // NI from its fields on.
+#[tactic(auto, unfolding(dossier::specs::JudgingRecords::fields_of, dossier::specs::JudgingRecords::in_range, wire::specs::Bytes::total))]
 fn read_nitrogen(s: &[u8], at: usize) -> ActivityAnswer
     requires { at ≤ length s.now }
     ensures result_value { activity_says s.now result ≡ fields_of nitrogen (drop at s.now) }
@@ -177,6 +181,7 @@ fn residue_outside(r: FixingCrop) -> bool
 }
 
 // CR from its fields on.
+#[tactic(auto, unfolding(dossier::specs::JudgingRecords::fields_of, wire::specs::Bytes::total))]
 fn read_residue(s: &[u8], at: usize) -> ActivityAnswer
     requires { at ≤ length s.now }
     ensures result_value { activity_says s.now result ≡ fields_of residue (drop at s.now) }
@@ -215,6 +220,7 @@ fn read_residue(s: &[u8], at: usize) -> ActivityAnswer
 }
 
 // Whether m is the mark of an activity record.
+#[tactic(auto, unfolding(dossier::specs::JudgingRecords::activity_mark))]
 fn is_activity(m: u64) -> bool
     ensures { result ≡ activity_mark m }
 {
@@ -234,6 +240,7 @@ fn is_activity(m: u64) -> bool
 }
 
 // The activity record whose mark is m, from its fields on; none where m is another mark.
+#[tactic(auto, unfolding(dossier::specs::JudgingRecords::activity_mark, dossier::specs::JudgingRecords::activity_under))]
 fn read_activity(s: &[u8], at: usize, m: u64) -> ActivityAnswer
     requires { at ≤ length s.now }
     ensures result_value { activity_says s.now result ≡ activity_under m (drop at s.now) }

@@ -1,1 +1,2 @@
 pub mod AtLaws
+pub mod Rulesets

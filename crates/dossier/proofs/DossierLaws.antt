@@ -18,7 +18,7 @@ use Rattle.dossier.specs.Records.{Opening, OpeningInRange, opening_bytes, terms_
 use Rattle.dossier.specs.Claims.{DueInRange}
 use Rattle.dossier.specs.Reader.{accepted, after, ◌>>=◌, ◌>>◌, give, mark, is, stands, upon, nothing}
 use Rattle.dossier.specs.JudgingRecords.{activity_mark}
-use Rattle.dossier.specs.Judging.{opening, none_left, year, end, years, dossier, opening_piece, year_piece}
+use Rattle.dossier.specs.Judging.{none_left, year, end, years, dossier, opening_piece, year_piece}
 use Rattle.wire.proofs.BytesLaws.{bytes_after, length-bytes, take-bytes}
 use Rattle.dossier.proofs.ReaderLaws.{step, was, mark-only, nothing-only}
 use Rattle.dossier.proofs.Refusals.{end_there}

@@ -13,7 +13,7 @@ use Rattle.wire.specs.Bytes.{joined}
 use Rattle.dossier.specs.Records.{MatrixInRange, matrix_bytes}
 use Rattle.dossier.specs.JudgingRecords.{matrix}
 use Rattle.wire.proofs.BytesLaws.{Below, below-entries, length-each}
-use Rattle.dossier.proofs.Exact.{Exact, done, begin-then, fields-then}
+use Rattle.dossier.proofs.Exact.{Exact, done, begin_then, fields_then}
 use Rattle.dossier.proofs.ExactParts.{Any}
 use Rattle.dossier.proofs.EachLaws.{equal_tests, each_then}
 

@@ -22,7 +22,7 @@ use Rattle.dossier.specs.JudgingRecords.{activity_mark}
 use Rattle.dossier.specs.JudgingPlan.{plan_year, plan_end, plan_years, plan_fault, renumbered, plan, lent_plan}
 use Rattle.wire.proofs.BytesLaws.{bytes_after, length-bytes}
 use Rattle.dossier.proofs.ReaderLaws.{no, never, step, was, mark-yes, mark-only, stands-bytes, nothing-only}
-use Rattle.dossier.proofs.Exact.{Exact, begin-first, field-then, within-then}
+use Rattle.dossier.proofs.Exact.{Exact, begin-first, field_then, within_then}
 use Rattle.dossier.proofs.ExactParts.{Any, last_then, OptionThen, if_any_lem}
 use Rattle.dossier.proofs.CauseLaws.{plan_causes}
 use Rattle.dossier.proofs.RunLaws.{Over, activities_exact}

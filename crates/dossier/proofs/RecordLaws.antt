@@ -11,7 +11,7 @@ use Rattle.wire.specs.Bytes.{joined}
 use Rattle.dossier.specs.Records.{Head, HeadInRange, head_bytes, AreasInRange, areas_bytes, ConversionsInRange, conversions_bytes}
 use Rattle.dossier.specs.JudgingRecords.{head, areas, conversions}
 use Rattle.wire.proofs.BytesLaws.{below_total, length-bytes, length-each}
-use Rattle.dossier.proofs.Exact.{Exact, done, begin-then, field-then, fields-then, within-then, equal-then}
+use Rattle.dossier.proofs.Exact.{Exact, done, begin_then, field_then, fields_then, within_then, equal_then}
 use Rattle.dossier.proofs.ExactParts.{Any}
 
 -- HD

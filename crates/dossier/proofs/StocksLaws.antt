@@ -12,7 +12,7 @@ use Rattle.wire.specs.Bytes.{joined}
 use Rattle.wire.proofs.BytesLaws.{Below, below-entries, length-bytes, length-each}
 use Rattle.dossier.specs.Records.{Head, StocksInRange, stocks_bytes, Opening, bytes_if_any, opening_bytes, terms_of, state_of, settled}
 use Rattle.dossier.specs.JudgingRecords.{stocks}
-use Rattle.dossier.proofs.Exact.{Exact, done, begin-then, fields-then, equal-then}
+use Rattle.dossier.proofs.Exact.{Exact, done, begin_then, fields_then, equal_then}
 use Rattle.dossier.proofs.ExactParts.{Any}
 use Rattle.dossier.proofs.EachLaws.{within_tests, each_then}
 

@@ -1,7 +1,7 @@
 -- What is judged under a plan that is lent as bytes.
 -- Assumes nothing.
 use Prim.Native.Nat.{ℕ}
-use mathlib.Core.Path.{◌≡◌, refl, ◌∙◌, ap, sym}
+use mathlib.Core.Path.{◌≡◌, refl, ◌∙◌, ap, sym, subst}
 use mathlib.Core.Logic.{inl, inr}
 use mathlib.Core.Option.{Option, none}
 use mathlib.Core.List.{List, [], ◌∷◌}
@@ -60,7 +60,7 @@ under-causes {A} judge own too causes planned s n e = go (lent_plan planned) ref
   where
     of-plan : n ∈ plan_causes → n ∈ (plan_not_of_form ∷ own)
     of-plan (inl c) = inl c
-    of-plan (inr (inl c)) = inr (rw c too)
+    of-plan (inr (inl c)) = inr (subst (λ (m : ℕ). m ∈ own) (sym c) too)
     of-plan (inr (inr c)) = absurd c
 
     go : (j : Judged (Option Plan)) → lent_plan planned ≡ j → after j (λ p _. judge p s) ≡ refused n → n ∈ (plan_not_of_form ∷ own)

@@ -9,7 +9,7 @@ use mathlib.Core.List.{List, [], ◌∷◌, ◌++◌, append_assoc, append-nil}
 use native.Mathlib.Omega.{arith}
 use borrow.Author.Tests.{eqb-true, eqb-false, ne_eqb}
 use lib.Dec.{eqb, lit<}
-use lib.ListN.{length, length-append}
+use lib.ListN.{length-append}
 use Rattle.classes.specs.Calendar.{days_in_year}
 use Rattle.classes.proofs.CalendarLaws.{days_range}
 use Rattle.activity.specs.declared.Activity.{Activity}
@@ -22,13 +22,12 @@ use Rattle.dossier.specs.Plan.{Plan, records_for}
 use Rattle.dossier.specs.Records.{Due, ConversionsInRange, conversions_bytes, RecordsInRange, records_bytes, figures_for, YearInRange, year_bytes}
 use Rattle.dossier.specs.Claims.{DueInRange}
 use Rattle.dossier.specs.Reader.{refused, accepted, ◌>>=◌, ◌>>◌, begin, stands}
-use Rattle.dossier.specs.JudgingRecords.{activity_mark}
 use Rattle.dossier.specs.Judging.{activities, taken, none_left, year_records, year_left, allowed, year}
 use Rattle.wire.proofs.BytesLaws.{length-bytes}
 use Rattle.dossier.proofs.ReaderLaws.{no, step, begin-only, within-yes, equal-yes, stands-bytes}
 use Rattle.dossier.proofs.Refusals.{none_left_lem, left_for, left-refused}
 use Rattle.dossier.proofs.YearRefusals.{year_record, year-fields}
-use Rattle.dossier.proofs.Exact.{Exact, begin-first, field-then, within-then, equal-then}
+use Rattle.dossier.proofs.Exact.{Exact, begin-first, field_then, within_then, equal_then}
 use Rattle.dossier.proofs.ExactParts.{Any, sub_then, last_then, checked, restated}
 use Rattle.dossier.proofs.RecordLaws.{conversions_exact}
 use Rattle.dossier.proofs.ResidueLaws.{third_activity}

@@ -1,7 +1,7 @@
 -- Document 01, "Causes and numbers": one judgement of any bytes as a dossier, as an opening piece, as a year piece. "Records are judged in
 -- order; the first fault counts."
 -- To be believed. Assumes nothing.
-use Rattle.std.specs.Prelude.{ℕ, zero, suc, ◌+◌, ◌-◌, Bool, true, false, cond, List, [], ◌∷◌, ◌++◌, ltb, eqb, length}
+use Rattle.std.specs.Prelude.{ℕ, zero, suc, ◌-◌, Bool, true, false, cond, List, [], ◌∷◌, ◌++◌, ltb, eqb, length}
 use Rattle.std.proofs.Math.Option.{Option, none, some}
 use Rattle.classes.specs.Calendar.{days_in_year}
 use Rattle.activity.specs.declared.Activity.{Activity}

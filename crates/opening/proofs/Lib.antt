@@ -3,3 +3,4 @@ pub mod StocksLaws
 pub mod AreasLaws
 pub mod MatrixLaws
 pub mod OpeningLaws
+pub mod Rulesets

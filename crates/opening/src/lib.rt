@@ -1,4 +1,6 @@
 // The opening of a dossier or of a ledger: HD, ST if it is filed, PA, DA and, under Option 2, MP.
+#![tactic(auto)]
+
 ghost use Rattle.std.specs.Prelude.{◌≡◌, ◌+◌, ◌*◌, ◌≤◌, ◌<◌, length, drop};
 ghost use Rattle.std.proofs.lemmas.List.Edits.{sets};
 ghost use Rattle.projection.specs.Projection.{opened_region};
@@ -19,6 +21,9 @@ const PA: u64 = 0x5041;
 const DA: u64 = 0x4441;
 
 const MP: u64 = 0x4d50;
+
+// What a row of MP sums to, in millionths.
+const ROW_SUM: u64 = 1000000;
 
 // The fields of HD.
 #[derive(Drop)]
@@ -55,7 +60,7 @@ enum RecordAnswer {
     Refused(u8),
 }
 
-#[derive(Drop)]
+#[derive(Clone, Copy)]
 pub enum OpeningAnswer {
     Read(usize),
     Refused(u8),
@@ -70,6 +75,7 @@ pub struct Opened {
 }
 
 // HD.
+#[tactic(auto, using(crate::proofs::Rulesets::heads), unfolding(dossier::specs::JudgingRecords::head))]
 fn read_head(s: &[u8]) -> HeadAnswer
     ensures result_value { head_says s.now result ≡ head s.now }
     ensures head_inside { HeadInside s.now result }
@@ -101,6 +107,7 @@ fn read_head(s: &[u8]) -> HeadAnswer
 }
 
 // ST from at: the lent stocks filled, each tested. A refusal leaves them partly filled.
+#[tactic(auto, unfolding(dossier::specs::JudgingRecords::each, dossier::specs::JudgingRecords::stocks, dossier::specs::Reader::give, wire::specs::Bytes::numbers))]
 fn read_stocks(s: &[u8], at: usize, stocks: &mut [u64; 12]) -> RecordAnswer
     requires at_in_bounds { at ≤ length s.now }
     requires stocks_len { length stocks.old ≡ 12 }
@@ -127,6 +134,7 @@ fn read_stocks(s: &[u8], at: usize, stocks: &mut [u64; 12]) -> RecordAnswer
 }
 
 // The stocks in use from at, stored in the lent ones: those of ST where it stands, otherwise the built-in ones.
+#[tactic(auto, using(crate::proofs::Rulesets::stocks))]
 fn read_stocks_if_any(s: &[u8], at: usize, stocks: &mut [u64; 12]) -> RecordAnswer
     requires at_in_bounds { at ≤ length s.now }
     requires stocks_len { length stocks.old ≡ 12 }
@@ -151,6 +159,7 @@ fn no_areas(n: u8) -> Areas
 
 // PA or DA from at: twelve areas whose sum is from least to 10^12. Each is tested against what is left
 // before it is added, so the sum never wraps.
+#[tactic(auto, unfolding(dossier::specs::JudgingRecords::areas, wire::specs::Bytes::numbers, wire::specs::Bytes::total))]
 fn read_areas(s: &[u8], at: usize, m: u64, least: u64) -> Areas
     requires { at ≤ length s.now }
     ensures result_value { areas_says s.now result ≡ judgedAreas m least (drop at s.now) }
@@ -182,6 +191,7 @@ fn read_areas(s: &[u8], at: usize, m: u64, least: u64) -> Areas
 }
 
 // Stores twelve numbers of 32 bits from at as row i of a matrix; their sum.
+#[tactic(auto, unfolding(wire::specs::Bytes::numbers, wire::specs::Bytes::total))]
 fn fill_row(matrix: &mut [u64; 144], i: usize, s: &[u8], at: usize) -> u64
     requires { (i < 12) × (at + 48 ≤ length s.now) }
     ensures value { result ≡ total (numbers 12 4 (drop at s.now)) }
@@ -199,6 +209,7 @@ fn fill_row(matrix: &mut [u64; 144], i: usize, s: &[u8], at: usize) -> u64
 }
 
 // MP from at: the lent matrix filled row by row, each row tested. A refusal leaves it partly filled.
+#[tactic(auto, unfolding(dossier::specs::JudgingRecords::each, dossier::specs::JudgingRecords::matrix, dossier::specs::Reader::give, wire::specs::Bytes::numbers))]
 fn read_matrix(s: &[u8], at: usize, matrix: &mut [u64; 144]) -> RecordAnswer
     requires at_in_bounds { at ≤ length s.now }
     requires matrix_len { length matrix.old ≡ 144 }
@@ -211,7 +222,7 @@ fn read_matrix(s: &[u8], at: usize, matrix: &mut [u64; 144]) -> RecordAnswer
     }
     let mut i: usize = 0;
     while i < 12 {
-        if fill_row(matrix, i, s, at + 2 + 48 * i) != 1000000 {
+        if fill_row(matrix, i, s, at + 2 + 48 * i) != ROW_SUM {
             return RecordAnswer::Refused(5);
         }
         i += 1;
@@ -220,6 +231,7 @@ fn read_matrix(s: &[u8], at: usize, matrix: &mut [u64; 144]) -> RecordAnswer
 }
 
 // The matrix in use from at, stored in the lent one: MP under Option 2, table 4's under Option 1.
+#[tactic(auto, using(crate::proofs::Rulesets::matrices))]
 fn read_matrix_under(s: &[u8], at: usize, option: u64, matrix: &mut [u64; 144]) -> RecordAnswer
     requires at_in_bounds { at ≤ length s.now }
     requires matrix_len { length matrix.old ≡ 144 }
@@ -234,6 +246,7 @@ fn read_matrix_under(s: &[u8], at: usize, option: u64, matrix: &mut [u64; 144]) 
 }
 
 // A region with these areas at inception.
+#[tactic(auto, unfolding(projection::specs::Projection::opened_region))]
 fn at_inception(areas: [AreaUnits; 12]) -> Region
     ensures { result ≡ opened_region areas }
 {
@@ -244,6 +257,7 @@ fn at_inception(areas: [AreaUnits; 12]) -> Region
 }
 
 // A refused opening: all zeros.
+#[tactic(auto, unfolding(dossier::specs::Records::empty_state, dossier::specs::Records::empty_terms))]
 pub fn no_opening(n: u8) -> Opened
     ensures { result ≡ no_opening n }
 {
@@ -268,6 +282,7 @@ pub fn no_opening(n: u8) -> Opened
 }
 
 // The opening from DA on, after HD, with the stocks in use, and PA, whose areas and their sum are given.
+#[tactic(auto, unfolding(crate::specs::Answers::from_belt))]
 fn with_belt(
     s: &[u8],
     at: usize,
@@ -320,6 +335,7 @@ fn with_belt(
 }
 
 // The opening from PA on, after HD, with the stocks in use.
+#[tactic(auto, unfolding(crate::specs::Answers::from_areas))]
 fn with_areas(s: &[u8], at: usize, h: Head, stocks: [u64; 12]) -> Opened
     requires { at ≤ length s.now }
     ensures result_value { opened_says s.now result ≡ from_areas (head_fields h) stocks (drop at s.now) }
@@ -335,6 +351,7 @@ fn with_areas(s: &[u8], at: usize, h: Head, stocks: [u64; 12]) -> Opened
 }
 
 // The opening after HD, from where ST may stand.
+#[tactic(auto, unfolding(crate::specs::Answers::from_stocks))]
 fn with_stocks(s: &[u8], at: usize, h: Head) -> Opened
     requires { at ≤ length s.now }
     ensures result_value { opened_says s.now result ≡ from_stocks (head_fields h) (drop at s.now) }
@@ -360,6 +377,7 @@ pub fn read_opening(s: &[u8]) -> Opened
 }
 
 // An opening piece: the opening, and nothing after it.
+#[tactic(auto, using(crate::proofs::Rulesets::pieces))]
 pub fn read_piece(s: &[u8]) -> Opened
     ensures result_value { opened_says s.now result ≡ settled_piece s.now }
     ensures opened_inside { OpenedInside s.now result }

@@ -191,3 +191,6 @@ pub passed_next : {flags : List Bool} (low high : List ℕ) (k i : ℕ) → Pass
     → i ≡ slot (key_at low high k) → i < 1021 → among (take k (keys low high)) (key_at low high k) ≡ false
     → Passed (set flags i true) (take (k + 1) (keys low high))
 passed_next low high k i d p q e b n = rw (keys-next low high k p q, e) (passed_more d (key_at low high k) (rw e at b) n)
+
+-- what `any_equal` uses, for its attribute
+pub ruleset equals = (few-differ, equal_found, none_passed)

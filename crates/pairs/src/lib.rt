@@ -1,4 +1,6 @@
 // Whether two keys of a list are equal. A key is two words; the low words stand in one array, the high words in another.
+#![tactic(auto)]
+
 ghost use Rattle.std.specs.Prelude.{◌≡◌, ◌%◌, ◌≤◌, ◌<◌, length, take};
 ghost use Rattle.activity.specs.Key.{two_words};
 ghost use Rattle.pairs.specs.Pairs.{keys, among as isAmong, some_equal};
@@ -11,6 +13,7 @@ fn slot_of(x: u64) -> usize
 }
 
 // Whether the key of the words x and y is among the first count keys. Each is compared, with no branch, so that the compiler takes several at a time.
+#[tactic(auto, unfolding(crate::specs::Pairs::among))]
 fn among(low: &[u64; 60], high: &[u64; 60], count: usize, x: u64, y: u64) -> bool
     requires { (count ≤ 60) × (length low.now ≡ 60) × (length high.now ≡ 60) }
     ensures { result ≡ isAmong (take count (keys low.now high.now)) (two_words x y) }
@@ -25,6 +28,7 @@ fn among(low: &[u64; 60], high: &[u64; 60], count: usize, x: u64, y: u64) -> boo
 }
 
 // Whether two of the first count keys are equal. A key whose flag is not set yet equals no earlier one.
+#[tactic(auto, using(crate::proofs::PairsLaws::equals), unfolding(crate::specs::Pairs::slot))]
 pub fn any_equal(low: &[u64; 60], high: &[u64; 60], count: usize) -> bool
     requires { (count ≤ 60) × (length low.now ≡ 60) × (length high.now ≡ 60) }
     ensures { result ≡ some_equal (take count (keys low.now high.now)) }

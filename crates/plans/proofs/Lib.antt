@@ -1,3 +1,4 @@
 pub mod YearLaws
 pub mod PlanLaws
 pub mod FindLaws
+pub mod Rulesets

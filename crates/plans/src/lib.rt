@@ -1,4 +1,6 @@
 // The plan: its years judged once, each with its place, and the records of a year found in it.
+#![tactic(auto)]
+
 ghost use Rattle.std.specs.Prelude.{◌≡◌, ◌≤◌, ◌<◌, length, drop};
 ghost use Rattle.dossier.specs.JudgingPlan.{plan_year, plan_fault, lent_plan};
 ghost use Rattle.plans.specs.declared.PlanAnswer.{PlanAnswer as Answer};
@@ -39,6 +41,7 @@ fn plan_fault(n: u8) -> u8
 }
 
 // A year of the plan from a place on: PY, its year, which is least or later, and its records.
+#[tactic(auto, using(crate::proofs::Rulesets::years))]
 fn read_plan_year(plan: &[u8], at: usize, least: u64) -> PlanYearAnswer
     requires { at ≤ length plan.now }
     ensures { PlanYearSaid (plan_year least (drop at plan.now)) plan.now at result }
@@ -61,6 +64,7 @@ fn read_plan_year(plan: &[u8], at: usize, least: u64) -> PlanYearAnswer
 }
 
 // Whether EN stands at a place, and nothing after it.
+#[tactic(auto, using(crate::proofs::Rulesets::endings), unfolding(wire::specs::Bytes::field_at))]
 fn ends(plan: &[u8], at: usize) -> bool
     requires { at ≤ length plan.now }
     ensures { PlanEndSaid (drop at plan.now) result }
@@ -72,6 +76,7 @@ fn ends(plan: &[u8], at: usize) -> bool
 }
 
 // The years of a plan that is lent, the place of each stored, and its end.
+#[tactic(auto, using(crate::proofs::Rulesets::planning))]
 fn read_years(plan: &[u8], places: &mut [usize; 20]) -> PlanAnswer
     requires plan_nonzero { 0 < length plan.now }
     requires places_len { length places.old ≡ 20 }
@@ -103,6 +108,7 @@ fn read_years(plan: &[u8], places: &mut [usize; 20]) -> PlanAnswer
 }
 
 // Judges a plan, and stores where the year of each PY stands.
+#[tactic(auto, using(dossier::proofs::PlanSteps::lent_none))]
 pub fn read_plan(plan: &[u8], places: &mut [usize; 20]) -> PlanAnswer
     requires { length places.old ≡ 20 }
     ensures { PlanSaid (lent_plan plan.now) plan.now places.new result }
@@ -114,6 +120,7 @@ pub fn read_plan(plan: &[u8], places: &mut [usize; 20]) -> PlanAnswer
 }
 
 // Finds the records of a year: places are those of the plan's first years, count of them.
+#[tactic(auto, using(crate::proofs::Rulesets::seeking))]
 pub fn find(plan: &[u8], places: &[usize; 20], count: usize, year: u64) -> Found
     requires { PlanSaid (lent_plan plan.now) plan.now places.now (Answer.Read count) }
     ensures { FoundIn (lent_plan plan.now) plan.now year result }

@@ -1,3 +1,4 @@
 pub mod RowLaws
 pub mod TableLaws
 pub mod ReadersLaws
+pub mod Rulesets

@@ -1,4 +1,6 @@
 // A table of conversions, CP or CD: read a row at a time and weighed as it is read; nothing of it is stored.
+#![tactic(auto)]
+
 ghost use Rattle.std.specs.Prelude.{◌≡◌, ◌+◌, ◌≤◌, ◌<◌, length, drop};
 ghost use Rattle.wire.specs.Bytes.{numbers};
 ghost use Rattle.classes.specs.Matrix.{entry};
@@ -23,6 +25,7 @@ pub enum TableAnswer {
 }
 
 // With the conversion at place j of the row that begins at a place: composed from its eight bytes, tested against the total by itself, and weighed.
+#[tactic(auto, using(crate::proofs::Rulesets::rows))]
 fn with_next(
     row: Row,
     s: &[u8],
@@ -58,6 +61,7 @@ fn with_next(
 }
 
 // The row that begins at a place, weighed by the factors from place k on. Twelve calls, for the compiler would leave a loop of them a loop, which is slower.
+#[tactic(auto, unfolding(crate::specs::Rows::some_above, crate::specs::Rows::sound, crate::specs::Rows::weighed, wire::specs::Bytes::numbers, wire::specs::Bytes::total))]
 fn read_row(s: &[u8], at: usize, total: AreaUnits, factors: &[u64; 144], k: usize) -> Row
     requires k_bound { (k + 12 ≤ 144) × (at + 96 ≤ length s.now) × SmallArea total.0 }
     requires factors_fit { FactorsFit factors.now }
@@ -83,6 +87,7 @@ fn read_row(s: &[u8], at: usize, total: AreaUnits, factors: &[u64; 144], k: usiz
 }
 
 // CP or CD from at: 144 conversions whose sum is total, weighed by the factors. The sum is tested once a row.
+#[tactic(auto, unfolding(crate::specs::Rows::weighed, wire::specs::Bytes::numbers, wire::specs::Bytes::total))]
 pub fn read_table(
     s: &[u8],
     at: usize,
@@ -108,7 +113,8 @@ pub fn read_table(
             return TableAnswer::Refused(7);
         }
         let sum = row.sum;
-        if left.0 < sum.0 {
+        let rest = left.0;
+        if rest < sum.0 {
             return TableAnswer::Refused(7);
         }
         left = left.minus(sum);

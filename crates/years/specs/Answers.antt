@@ -13,7 +13,7 @@ use Rattle.figures.specs.declared.YearDays.{YearDays}
 use Rattle.figures.specs.Year.{Year}
 use Rattle.figures.specs.Figures.{monitored_carbon}
 use Rattle.figures.specs.Ranges.{SmallCarbon, DaysOf}
-use Rattle.dossier.specs.Reader.{Judged, refused, accepted, Reader, ◌>>=◌, ◌>>◌, give}
+use Rattle.dossier.specs.Reader.{Judged, refused, accepted, Reader, ◌>>=◌, give}
 use Rattle.dossier.specs.Marks.{mark_cp, mark_cd}
 use Rattle.dossier.specs.Judging.{taken, year_left}
 use Rattle.tables.specs.Answers.{monitored_table}

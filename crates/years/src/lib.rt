@@ -1,4 +1,6 @@
 // A year of a dossier: YR, CP, CD and its activity records or PL.
+#![tactic(auto)]
+
 ghost use Rattle.std.specs.Prelude.{◌≡◌, cond, ◌≤◌, ◌<◌, length, drop, []};
 ghost use Rattle.classes.specs.Matrix.{entry};
 ghost use Rattle.projection.specs.Ranges.{SmallArea, FactorsFit};
@@ -37,6 +39,7 @@ pub enum YearAnswer {
 }
 
 // A year from CP on, of these days: both tables, and the activity records or PL.
+#[tactic(auto, using(crate::proofs::Rulesets::belts), unfolding(crate::specs::Answers::summarized_tables))]
 fn read_tables<'a>(
     s: &'a [u8],
     at: usize,
@@ -116,6 +119,7 @@ fn read_records<'a>(
 }
 
 // Where no year is left: 1 or 2 unless YR stands at a place, complete, and then 6.
+#[tactic(auto, using(crate::proofs::Rulesets::none))]
 fn none_left(s: &[u8], at: usize) -> u8
     requires { at ≤ length s.now }
     ensures { (result ≡ number_of (none_left {A = Unit {0}} (drop at s.now))) × (0 < result) }
@@ -128,6 +132,7 @@ fn none_left(s: &[u8], at: usize) -> u8
 }
 
 // EN from at and nothing after it, once all years are read: 0, or the number of the fault. YR stays due there.
+#[tactic(auto, using(crate::proofs::Rulesets::endings), unfolding(wire::specs::Bytes::field_at))]
 pub fn read_end(s: &[u8], at: usize) -> u8
     requires { at ≤ length s.now }
     ensures { number_says [] result ≡ end (drop at s.now) }
@@ -151,6 +156,7 @@ pub fn read_end(s: &[u8], at: usize) -> u8
 
 // YR to the last activity record or PL, from at: year is due, left years are left, project and belt are the totals of PA and DA, and the plan's records
 // for the year are found.
+#[tactic(auto, using(crate::proofs::Rulesets::years))]
 pub fn read_year<'a>(
     s: &'a [u8],
     at: usize,
