@@ -1,4 +1,6 @@
 // Verification periods: whether a list of period ends is sound, running credited totals, and the tonnes issued at each end.
+#![tactic(auto)]
+
 ghost use Rattle.std.specs.Prelude.{◌≡◌, true, ◌+◌, ◌*◌, ◌≤◌, ◌<◌, pos, length};
 ghost use Rattle.std.proofs.lemmas.List.Edits.{sets};
 ghost use Rattle.wire.specs.Signed.{figures_bytes};
@@ -9,6 +11,7 @@ use classes::Grams;
 use figures::Figures;
 
 // Whether a list of period ends is sound for so many years from first on.
+#[tactic(auto, using(crate::proofs::Rulesets::ends))]
 pub fn sound(ends: &[u16], first: u64, years: u64) -> bool
     ensures { result ≡ ends_sound first years ends.now }
 {
@@ -32,6 +35,7 @@ pub fn sound(ends: &[u16], first: u64, years: u64) -> bool
 }
 
 // The running credited totals of k years: at y that of the first y.
+#[tactic(auto, using(crate::proofs::Rulesets::totals))]
 fn running_totals(figures: [Figures; 20], k: u64) -> [Grams; 21]
     requires { SmallYears k figures }
     ensures { Kept k figures result }
@@ -49,6 +53,7 @@ fn running_totals(figures: [Figures; 20], k: u64) -> [Grams; 21]
 }
 
 // The tonnes issued at an end with this running total, where so many were issued before.
+#[tactic(auto, using(crate::proofs::Rulesets::issues))]
 fn issued_now(total: Grams, before: u64) -> u64
     ensures { pos result ≡ issued_now (pos before) total.0 }
 {
@@ -60,6 +65,7 @@ fn issued_now(total: Grams, before: u64) -> u64
 }
 
 // Writes the tonnes issued at each end of a sound list, from at on. With no list no running totals are kept.
+#[tactic(auto, using(crate::proofs::Rulesets::years), unfolding(wire::specs::Signed::figures_bytes))]
 pub fn write_issued(
     figures: [Figures; 20],
     k: u64,

@@ -27,7 +27,7 @@ use Rattle.figures.specs.Figures.{no_figures}
 use Rattle.figures.specs.Year.{Year}
 use Rattle.figures.specs.Reckoning.{year_figures, after_figures, after_year}
 use Rattle.figures.proofs.FiguresLaws.{FiguresSmall}
-use Rattle.wire.specs.Bytes.{Bytes, total}
+use Rattle.wire.specs.Bytes.{Bytes}
 use Rattle.dossier.specs.Plan.{Plan, PlanLent}
 use Rattle.dossier.specs.Records.{
   StocksFiled,

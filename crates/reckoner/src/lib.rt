@@ -1,4 +1,6 @@
 // The reckoner's public calls: a ledger that is opened, given years and closed, and the whole reckoning of a dossier.
+#![tactic(auto)]
+
 ghost use Rattle.std.specs.Prelude.{◌≡◌, ◌≤◌, ◌<◌, length, drop, []};
 ghost use Rattle.dossier.specs.JudgingPlan.{lent_plan};
 ghost use Rattle.plans.specs.declared.PlanAnswer.TheVariants.{Read as PlanRead};
@@ -14,7 +16,7 @@ use plans::PlanAnswer;
 use reckoning::StepAnswer;
 
 // A ledger: the years given, what its opening settled, the state that years change, and the figures of the years given.
-#[derive(Drop)]
+#[derive(Clone, Copy)]
 pub struct Ledger {
     given: u64,
     terms: Terms,
@@ -36,6 +38,7 @@ pub struct Step {
 }
 
 // A ledger with no year given.
+#[tactic(auto, unfolding(crate::specs::Ledger::new_ledger))]
 fn new_ledger(terms: Terms, state: State) -> Ledger
     ensures { result ≡ new_ledger terms state }
 {
@@ -49,6 +52,7 @@ fn new_ledger(terms: Terms, state: State) -> Ledger
 }
 
 // A refused opening hands back an empty ledger.
+#[tactic(auto, unfolding(crate::specs::Ledger::empty_ledger))]
 fn refused_opening(n: u8) -> Step
     ensures { result ≡ refused_opening n }
 {
@@ -62,6 +66,7 @@ fn refused_opening(n: u8) -> Step
 }
 
 // The report of a ledger and the tonnes issued at each end of a list, written where the list is sound and the buffer long enough: 0, or 15 or 10.
+#[tactic(auto, unfolding(crate::specs::Ledger::report))]
 fn write_ledger(ledger: Ledger, ends: &[u16], res: &mut [u8]) -> u8
     requires { HandedBack ledger }
     ensures value { result ≡ (periods_says ledger ends.now (length res.old)).number }
@@ -315,37 +320,4 @@ pub fn reckon<'a>(dossier: &'a [u8], plan: &'a [u8], ends: &[u16], res: &mut [u8
         Answer::Refused(n) => n,
         Answer::Accepted => write_ledger(ledger, ends, res),
     }
-}
-
-// The whole reckoning for a host in C, under a plan or none, with a list of period ends or none.
-#[unsafe(no_mangle)]
-pub extern "C" fn kh_am004_reckon_periods<'a>(
-    dossier: &'a [u8],
-    plan: &'a [u8],
-    ends: &[u16],
-    res: &mut [u8],
-) -> u32
-    ensures value { result ≡ reckon_number dossier.now plan.now ends.now (length res.old) }
-    ensures res_after { res.new ≡ reckon_buffer dossier.now plan.now ends.now res.old }
-{
-    reckon(dossier, plan, ends, res) as u32
-}
-
-// The same with no list.
-#[unsafe(no_mangle)]
-pub extern "C" fn kh_am004_reckon_plan<'a>(dossier: &'a [u8], plan: &'a [u8], res: &mut [u8]) -> u32
-    ensures value { result ≡ reckon_number dossier.now plan.now [] (length res.old) }
-    ensures res_after { res.new ≡ reckon_buffer dossier.now plan.now [] res.old }
-{
-    let none = [0u16; 1];
-    kh_am004_reckon_periods(dossier, plan, &none[..0], res)
-}
-
-// The same with neither list nor plan.
-#[unsafe(no_mangle)]
-pub extern "C" fn kh_am004_reckon(dossier: &[u8], res: &mut [u8]) -> u32
-    ensures value { result ≡ reckon_number dossier.now [] [] (length res.old) }
-    ensures res_after { res.new ≡ reckon_buffer dossier.now [] [] res.old }
-{
-    kh_am004_reckon_plan(dossier, &dossier[..0], res)
 }

@@ -21,7 +21,7 @@ use Rattle.figures.specs.Reckoning.{region_reference, table_emissions, year_figu
 use Rattle.dossier.specs.Reader.{Judged, refused, accepted, after, ◌>>=◌, ◌>>◌, give, holds}
 use Rattle.dossier.specs.Causes.{planned_year_wrong}
 use Rattle.dossier.specs.Plan.{Plan, records_for}
-use Rattle.dossier.specs.Records.{Due, figures_for}
+use Rattle.dossier.specs.Records.{figures_for}
 use Rattle.dossier.specs.Judging.{year_left, allowed, year}
 use Rattle.dossier.proofs.ReaderLaws.{bind-yes}
 use Rattle.years.specs.Answers.{Summary, summary, summarized_year}
@@ -85,31 +85,30 @@ module _ (t : Terms) (factors counted : List ℕ) (ef : factors ≡ table_of (em
     unfolding carbon_advanced year_advanced after_year
     advanced_same = rw figures-same
 
+  -- the figures of a planned year judged, with what it makes, or with the year itself
+  made : (plan : Option Plan) (state : State) (b : Bool) (y : Year) (v : List ℕ)
+      → after (holds planned_year_wrong b v) (λ _. give (year_advanced t y state)) ≡ after (after (holds planned_year_wrong b v) (λ _. give y)) (λ y. give (year_advanced t y state))
+  unfolding holds give
+  made plan state true y v = refl
+  made plan state false y v = refl
+
+  same : (plan : Option Plan) (state : State) (y : Year) (v : List ℕ)
+      → after (holds planned_year_wrong (allowed y.planned (summary_advanced (entry factors) t.matrix (summary (entry counted) y) state).figures) v)
+      (λ _. give (summary_advanced (entry factors) t.matrix (summary (entry counted) y) state))
+      ≡ after (holds planned_year_wrong (allowed y.planned (figures_for (record { terms = t; state = state; plan = plan }) y)) v) (λ _. give (year_advanced t y state))
+  unfolding year_advanced
+  same plan state y v = ap (λ (a : Advanced). after (holds planned_year_wrong (allowed y.planned a.figures) v) (λ _. give a)) (advanced_same y state)
+
+  joined : (plan : Option Plan) (state : State) (j : Judged Year)
+      → after (after j (λ y. give (summary (entry counted) y)))
+      (λ m. holds planned_year_wrong (allowed m.planned (summary_advanced (entry factors) t.matrix m state).figures) >> give (summary_advanced (entry factors) t.matrix m state))
+      ≡ after (after j (λ y. holds planned_year_wrong (allowed y.planned (figures_for (record { terms = t; state = state; plan = plan }) y)) >> give y)) (λ y. give (year_advanced t y state))
+  unfolding give ◌>>◌
+  joined plan state (refused n) = refl
+  joined plan state (accepted y v) = same plan state y v ∙ made plan state (allowed y.planned (figures_for (record { terms = t; state = state; plan = plan }) y)) y v
+
   pub step_is : (plan : Option Plan) (state : State) (u : List ℕ)
       → stepped_year (entry factors) (entry counted) t.matrix (records_for plan state.year) t.start.0 t.beltstart.0 state u
       ≡ after (year (record { terms = t; state = state; plan = plan }) u) (λ y. give (year_advanced t y state))
   unfolding stepped_year summarized_year year give ◌>>=◌ ◌>>◌
-  step_is plan state u = go (year_left (records_for plan state.year) state.year state.left t.start.0 t.beltstart.0 u)
-    where
-      due : Due
-      due = record { terms = t; state = state; plan = plan }
-
-      made : (b : Bool) (y : Year) (v : List ℕ)
-          → after (holds planned_year_wrong b v) (λ _. give (year_advanced t y state)) ≡ after (after (holds planned_year_wrong b v) (λ _. give y)) (λ y. give (year_advanced t y state))
-      made true y v = unfold holds give in refl
-      made false y v = unfold holds give in refl
-
-      same : (y : Year) (v : List ℕ)
-          → after (holds planned_year_wrong (allowed y.planned (summary_advanced (entry factors) t.matrix (summary (entry counted) y) state).figures) v)
-          (λ _. give (summary_advanced (entry factors) t.matrix (summary (entry counted) y) state))
-          ≡ after (holds planned_year_wrong (allowed y.planned (figures_for due y)) v) (λ _. give (year_advanced t y state))
-      same y v =
-          unfold year_advanced in
-          ap (λ (a : Advanced). after (holds planned_year_wrong (allowed y.planned a.figures) v) (λ _. give a)) (advanced_same y state)
-
-      go : (j : Judged Year)
-          → after (after j (λ y. give (summary (entry counted) y)))
-          (λ m. holds planned_year_wrong (allowed m.planned (summary_advanced (entry factors) t.matrix m state).figures) >> give (summary_advanced (entry factors) t.matrix m state))
-          ≡ after (after j (λ y. holds planned_year_wrong (allowed y.planned (figures_for due y)) >> give y)) (λ y. give (year_advanced t y state))
-      go (refused n) = refl
-      go (accepted y v) = unfold give ◌>>◌ in same y v ∙ made (allowed y.planned (figures_for due y)) y v
+  step_is plan state u = joined plan state (year_left (records_for plan state.year) state.year state.left t.start.0 t.beltstart.0 u)

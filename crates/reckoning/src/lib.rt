@@ -1,4 +1,6 @@
 // One year's reckoning over the bytes of a dossier or of a year piece, and of the plan that is lent.
+#![tactic(auto)]
+
 ghost use Rattle.std.specs.Prelude.{◌≡◌, cond, ◌≤◌, length, drop};
 ghost use Rattle.std.specs.Int.Signed.{mag};
 ghost use Rattle.classes.specs.Matrix.{entry};
@@ -98,6 +100,7 @@ fn judged(planned: bool, figures: Figures, next: usize) -> StepAnswer
 
 // The year that is due, from at: the plan's records for it are found, start and belt are the starting areas, factors and counted the emission factors of
 // projected and of monitored conversions.
+#[tactic(auto, unfolding(crate::specs::Step::stepped_year))]
 pub fn step<'a>(
     s: &'a [u8],
     at: usize,

@@ -1,4 +1,6 @@
 // The report of a closing, written into the lent buffer.
+#![tactic(auto)]
+
 ghost use Rattle.std.specs.Prelude.{◌≡◌, [], ◌∷◌, ◌+◌, ◌*◌, ◌^◌, ◌≤◌, ◌<◌, length};
 ghost use Rattle.std.proofs.lemmas.List.Edits.{sets};
 ghost use Rattle.wire.specs.Signed.{figures_bytes, written};
@@ -42,6 +44,7 @@ fn put_year(buffer: &mut [u8], at: usize, f: Figures)
 }
 
 // The numbers of k years, total, tonnes and balances, from the buffer's start; the bytes beyond keep their content.
+#[tactic(auto, using(crate::proofs::Rulesets::years), unfolding(crate::specs::Report::eights))]
 pub fn write_report(
     figures: [Figures; 20],
     k: u64,
