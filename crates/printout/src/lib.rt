@@ -1,4 +1,6 @@
 // What `yearsheet` prints for the bytes it is handed.
+#![tactic(auto)]
+
 ghost use Rattle.sheet.specs.Written.{Written};
 ghost use Rattle.reckoner.specs.Calls.{HandedBack};
 ghost use Rattle.printout.specs.Printout.{printout};

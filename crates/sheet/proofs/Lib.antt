@@ -2,3 +2,4 @@ pub mod DecimalLaws
 pub mod Examples
 pub mod PutLaws
 pub mod SheetLaws
+pub mod Rulesets

@@ -1,4 +1,6 @@
 // The sheet of a reckoning as text, made from the result buffer into a lent output.
+#![tactic(auto)]
+
 ghost use Rattle.std.specs.Prelude.{◌+◌, ◌*◌, ◌≤◌, [], ◌∷◌, length};
 ghost use Rattle.wire.specs.Signed.{signed};
 ghost use Rattle.sheet.specs.Decimal.{decimal, decimal_of};
@@ -29,6 +31,7 @@ fn put_text(out: &mut [u8], at: usize, text: &[u8]) -> usize
 }
 
 // A number in decimal figures.
+#[tactic(auto, using(crate::proofs::Rulesets::decimals))]
 fn put_decimal(out: &mut [u8; 4096], at: usize, n: u64) -> usize
     requires { at + length (decimal n) ≤ 4096 }
     ensures { Put out.old at (decimal n) result out.new }
@@ -41,6 +44,7 @@ fn put_decimal(out: &mut [u8; 4096], at: usize, n: u64) -> usize
 }
 
 // The figure that 64 bits say.
+#[tactic(auto, using(crate::proofs::Rulesets::positive_figures))]
 fn put_figure(out: &mut [u8; 4096], at: usize, bits: u64) -> usize
     requires { at + 20 ≤ 4096 }
     ensures { Put out.old at (decimal_of (signed bits)) result out.new }
@@ -70,6 +74,7 @@ fn put_spaced(out: &mut [u8; 4096], at: usize, k: u64, res: &[u8], from: usize) 
     place
 }
 
+#[tactic(auto, unfolding(crate::specs::Sheet::year_line))]
 fn put_year_line(out: &mut [u8; 4096], at: usize, year: u64, res: &[u8; 1312], from: usize) -> usize
     requires { (from + 64 ≤ 1312) × (at + 189 ≤ 4096) }
     ensures { Put out.old at (year_line year res.now from) result out.new }
@@ -98,6 +103,7 @@ fn put_year_lines(out: &mut [u8; 4096], at: usize, n: u64, first: u16, res: &[u8
 }
 
 // A word and the figures that it names.
+#[tactic(auto, unfolding(crate::specs::Sheet::named))]
 fn put_named(out: &mut [u8; 4096], at: usize, word: &[u8], k: u64, res: &[u8], from: usize) -> usize
     requires { (from + 8 * k ≤ length res.now) × (at + length word.now + 21 * k ≤ 4096) }
     ensures { Put out.old at (named word.now k res.now from) result out.new }
@@ -106,6 +112,7 @@ fn put_named(out: &mut [u8; 4096], at: usize, word: &[u8], k: u64, res: &[u8], f
     put_spaced(out, after_word, k, res, from)
 }
 
+#[tactic(auto, using(crate::proofs::Rulesets::lengths), unfolding(crate::specs::Sheet::named, crate::specs::Sheet::total_line))]
 fn put_total_line(out: &mut [u8; 4096], at: usize, res: &[u8; 1312], from: usize) -> usize
     requires { (from + 32 ≤ 1312) × (at + 105 ≤ 4096) }
     ensures { Put out.old at (total_line res.now from) result out.new }
@@ -117,6 +124,7 @@ fn put_total_line(out: &mut [u8; 4096], at: usize, res: &[u8; 1312], from: usize
 }
 
 // The sheet of n years from the first on; the number of bytes written. The bytes beyond keep their content.
+#[tactic(auto, unfolding(crate::specs::Sheet::header, crate::specs::Sheet::sheet_of))]
 pub fn write_sheet(first: u16, n: u64, res: &[u8; 1312], out: &mut [u8; 4096]) -> usize
     requires { n ≤ 20 }
     ensures { Written (sheet_of first n res.now) out.old result out.new }
@@ -131,6 +139,7 @@ pub fn write_sheet(first: u16, n: u64, res: &[u8; 1312], out: &mut [u8; 4096]) -
 }
 
 // The line of a refusal; the number of bytes written.
+#[tactic(auto, unfolding(crate::specs::Sheet::refusal_of))]
 pub fn write_refusal(n: u8, out: &mut [u8; 4096]) -> usize
     ensures { Written (refusal_of n) out.old result out.new }
 {
@@ -140,6 +149,7 @@ pub fn write_refusal(n: u8, out: &mut [u8; 4096]) -> usize
 }
 
 // The line of a call, for testers: its word, its number and every whole figure of a part of a result; the number of bytes written.
+#[tactic(auto, unfolding(crate::specs::CallLine::call_line))]
 pub fn write_call(word: &[u8], n: u8, figures: &[u8], out: &mut [u8; 4096]) -> usize
     requires { (length word.now ≤ 100) × (length figures.now ≤ 1472) }
     ensures { Written (call_line word.now n figures.now) out.old result out.new }

@@ -1,82 +1,110 @@
 // Reads a dossier on standard input and prints its sheet, or its refusal. The first 65,536 bytes settle what is printed of any input.
 // An argument, and a read or a write that fails, is answered by a line on standard error.
-ghost use Rattle.yearsheet.specs.Reading.{Brought, Inside};
+#![tactic(auto)]
 
-use libc::{EAGAIN, EINTR, STDERR_FILENO, STDIN_FILENO, STDOUT_FILENO};
+ghost use Rattle.std.specs.Prelude.{◌≡◌, length, take, IfOk, IfSome, OnOk};
+ghost use Rattle.std.specs.Io.KnownBytes.{Appends};
+ghost use Rattle.wire.specs.Bytes.{Bytes};
+ghost use Rattle.printout.specs.Printout.{printout};
+ghost use Rattle.yearsheet.specs.Reading.{Brought, Taken, Inside};
+
+use std::io::{ErrorKind, Read, Write};
+use std::process::ExitCode;
+use std::rt::Env;
+use std::{env, fmt, io};
+
+// Why nothing, or not all, was printed.
+#[derive(Debug, Drop)]
+enum Failure {
+    Arguments(io::Error),
+    Input(io::Error),
+    Output(io::Error),
+}
+
+impl fmt::Display for Failure {
+    fn fmt<W: fmt::Write>(&self, f: &mut fmt::Formatter<W>) -> fmt::Result {
+        match self {
+            Failure::Arguments(error) => write!(f, "yearsheet: arguments: {error}"),
+            Failure::Input(error) => write!(f, "yearsheet: standard input: {error}"),
+            Failure::Output(error) => write!(f, "yearsheet: standard output: {error}"),
+        }
+    }
+}
 
 // What one read brought: bytes, of which an interrupted one brings none, or the input's end.
 #[derive(Drop)]
 enum Piece {
     Bytes(usize),
     End,
-    Failure,
 }
 
-// What standard input brought: a dossier of so many bytes.
-#[derive(Drop)]
-enum Input {
-    Dossier(usize),
-    Failure,
+// Whether a read that failed is tried again: one that was interrupted, or that would block.
+fn is_passing(error: &io::Error) -> bool {
+    let kind = error.kind();
+    kind == ErrorKind::Interrupted || kind == ErrorKind::WouldBlock
 }
 
-fn read_piece(piece: &mut [u8]) -> Piece
-    ensures { Brought result piece.new }
+fn read_piece<R: Read>(input: &mut R, piece: &mut [u8]) -> io::Result<Piece>
+    ensures within { IfOk result (λ read. Brought read piece.new) }
+    ensures bytes { IfOk result (λ read. Taken (R.remaining input.old) (R.remaining input.new) read piece.new) }
 {
-    let got = libc::read(STDIN_FILENO, piece);
-    if got > 0 {
-        return Piece::Bytes(io::count(got, piece));
+    match input.read(piece) {
+        Ok(0) => Ok(Piece::End),
+        Ok(n) => Ok(Piece::Bytes(n)),
+        Err(error) if is_passing(&error) => Ok(Piece::Bytes(0)),
+        Err(error) => Err(error),
     }
-    if got == 0 {
-        return Piece::End;
-    }
-    let error = os::errno();
-    if error == EINTR || error == EAGAIN {
-        return Piece::Bytes(0);
-    }
-    Piece::Failure
 }
 
-// Reads until the input ends or the space is full.
-fn read_input(space: &mut [u8]) -> Input
-    ensures { Inside result space.new }
+// Reads until the input ends or the space is full; how many bytes it put at the front.
+fn read_input<R: Read>(input: &mut R, space: &mut [u8]) -> io::Result<usize>
+    ensures within { Inside result space.new }
+    ensures bytes { IfOk result (λ n. IfSome (R.remaining input.old) (λ all. take n space.new ≡ take (length space.old) all)) }
 {
     let mut done = 0;
-    let mut turns = u64::MAX;
-    while turns > 0 {
-        let piece = read_piece(&mut space[done..]);
-        match piece {
-            Piece::Bytes(n) => {
-                done += n;
-            }
-            Piece::End => {
-                return Input::Dossier(done);
-            }
-            Piece::Failure => {
-                return Input::Failure;
-            }
+    for _ in 0..u64::MAX {
+        let brought = read_piece(input, &mut space[done..])?;
+        match brought {
+            Piece::Bytes(n) => done += n,
+            Piece::End => return Ok(done),
         }
-        turns -= 1;
     }
-    Input::Failure
+    Err(io::Error::from(ErrorKind::TimedOut))
 }
 
-fn print(dossier: &[u8]) {
-    let mut out = io::buffer();
+fn print<W: Write>(output: &mut W, dossier: &[u8]) -> io::Result<()>
+    ensures { OnOk result (Appends (W.contents output.old) (W.contents output.new) (printout dossier.now)) }
+{
+    let mut out = [0u8; 4096];
     let n = printout::write_printout(dossier, &mut out);
-    if !io::write_all(STDOUT_FILENO, &out[..n]) {
-        os::fail(b"yearsheet: standard output");
-    }
+    output.write_all(&out[..n])
 }
 
-fn main() {
-    if 1 < os::arg_count() {
-        io::write_all(STDERR_FILENO, b"usage: yearsheet < DOSSIER\n");
-        return;
+// Reads, and writes what is printed of the first 65,536 bytes, which is the printout of the whole input, and nothing else.
+fn run<R: Read, W: Write>(input: &mut R, output: &mut W) -> Result<(), Failure>
+    ensures front { OnOk result (IfSome (R.remaining input.old) (λ all. Appends (W.contents output.old) (W.contents output.new) (printout (take 65536 all)))) }
+    ensures whole { OnOk result (IfSome (R.remaining input.old) (λ all. Bytes all → Appends (W.contents output.old) (W.contents output.new) (printout all))) }
+{
+    let mut space = [0u8; 65536];
+    let n = read_input(input, &mut space).map_err(Failure::Input)?;
+    print(output, &space[..n]).map_err(Failure::Output)
+}
+
+fn start<R: AllocGlobal + Env + Eprint + Input + Print>(rt: &R) -> Result<(), Failure> {
+    let words = env::args(rt).map_err(Failure::Arguments)?;
+    if 1 < words.count() {
+        let _ = eprintln!(rt; "usage: yearsheet < DOSSIER");
+        return Ok(());
     }
-    let mut space = io::large_buffer();
-    let input = read_input(&mut space);
-    match input {
-        Input::Dossier(n) => print(&space[..n]),
-        Input::Failure => os::fail(b"yearsheet: standard input"),
+    run(&mut rt.reader(), &mut io::writer(rt))
+}
+
+fn main(rt: HostRuntime) -> ExitCode {
+    match start(&rt) {
+        Ok(()) => ExitCode::SUCCESS,
+        Err(failure) => {
+            let _ = eprintln!(rt; "{failure}");
+            ExitCode::FAILURE
+        }
     }
 }
