@@ -1,1 +1,2 @@
 // What is promised of all calls together: definitions in specs/, theorems in proofs/.
+#![tactic(auto)]

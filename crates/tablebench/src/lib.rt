@@ -1,4 +1,6 @@
-// The reader of conversion tables before #104, and a call for C of it and of the one since, for bench/tables. No part of the product.
+// The reader of conversion tables before #104, and a call of it and of the one since, for bench/tables. No part of the product.
+#![tactic(auto)]
+
 ghost use Rattle.std.specs.Prelude.{◌≡◌, ◌≤◌, length, drop};
 ghost use Rattle.classes.specs.Matrix.{entry};
 ghost use Rattle.projection.specs.Ranges.{SmallArea, FactorsFit};
@@ -14,6 +16,7 @@ const CP: u64 = 0x4350;
 const CD: u64 = 0x4344;
 
 // CP or CD from at: 144 conversions whose sum is total, weighed by the factors. Each is tested against what is left of the total.
+#[tactic(auto, unfolding(tables::specs::Rows::weighed, wire::specs::Bytes::field_at, wire::specs::Bytes::numbers, wire::specs::Bytes::total))]
 fn read_by_entries(
     s: &[u8],
     at: usize,
@@ -63,8 +66,7 @@ fn with_belt(project: CarbonUnits, belt: TableAnswer) -> u64
 }
 
 // The carbon of CP and CD from a place, both of this total, by the reader since #104; bench/tables.c sees to the ranges.
-#[unsafe(no_mangle)]
-pub extern "C" fn tables_by_rows(s: &[u8], at: usize, total: u64, factors: &[u64; 144]) -> u64
+pub fn tables_by_rows(s: &[u8], at: usize, total: u64, factors: &[u64; 144]) -> u64
     requires at_in_bounds { (at ≤ length s.now) × SmallArea total }
     requires factors_fit { FactorsFit factors.now }
     ensures { result ≡ carbon_said (both_tables (entry factors.now) total (drop at s.now)) }
@@ -81,8 +83,7 @@ pub extern "C" fn tables_by_rows(s: &[u8], at: usize, total: u64, factors: &[u64
 }
 
 // The same by the reader before it.
-#[unsafe(no_mangle)]
-pub extern "C" fn tables_by_entries(s: &[u8], at: usize, total: u64, factors: &[u64; 144]) -> u64
+pub fn tables_by_entries(s: &[u8], at: usize, total: u64, factors: &[u64; 144]) -> u64
     requires at_in_bounds { (at ≤ length s.now) × SmallArea total }
     requires factors_fit { FactorsFit factors.now }
     ensures { result ≡ carbon_said (both_tables (entry factors.now) total (drop at s.now)) }
