@@ -1,11 +1,11 @@
 -- Two texts written one after the other are one text written, the two joined.
 -- Assumes nothing.
-use Prim.Native.Nat.{ℕ, ◌+◌, ◌≤◌}
+use Prim.Native.Nat.{ℕ, suc, ◌+◌, ◌≤◌, ◌<◌}
 use mathlib.Core.Path.{◌≡◌, refl, ◌∙◌, ap, sym}
 use mathlib.Core.List.{List, [], ◌∷◌, ◌++◌}
 use native.Mathlib.Omega.{arith}
-use lib.ListN.{length, set, take, drop, length-append}
-use lib.Seq.{sets, sets-eq, length-take-le}
+use lib.ListN.{length, get_or, set, take, drop, length-append, drop_of_length-le}
+use lib.Seq.{sets, sets-eq, length-sets, drop-cons, length-take-le}
 use Rattle.arithmetic.proofs.StoreLaws.{sets_append}
 use Rattle.sheet.specs.Put.{Put}
 use Rattle.sheet.specs.Written.{Written}
@@ -28,6 +28,9 @@ rest_less {m = m} {s = s} {t = t} {j = j} r p =
 pub rest-none : {l w m : List ℕ} {i j : ℕ} → Rest l i w m j [] → Put l i w j m
 rest-none r = record { content = r.content; place = omega (arith, r.place) }
 
+pub rest-length : {l w m t : List ℕ} {i j : ℕ} → Rest l i w m j t → length m ≡ length l
+rest-length {l} {w} {m} {t} {i} {j} r = sym (length-sets m j t) ∙ ap length r.content ∙ length-sets l i w
+
 pub rest-last : {l w m n t : List ℕ} {i j k : ℕ} → Rest l i w m j t → Put m j t k n → Put l i w k n
 rest-last r q = record { content = q.content ∙ r.content; place = q.place ∙ r.place }
 
@@ -49,3 +52,15 @@ written-inside {text} {old} {new} {n} w = omega (arith, w.count, ap length w.con
 
 pub written-taken : {text old new : List ℕ} {n : ℕ} → Written text old n new → n ≡ length (take n new)
 written-taken w = sym (length-take-le _ _ (written-inside w))
+
+-- of a text copied byte by byte, i bytes stand: one more byte, and none left
+pub copied_more : {l m : List ℕ} {at : ℕ} (text : List ℕ) (i : ℕ) → i < length text → Rest l at text m (at + i) (drop i text)
+    → Rest l at text (set m (at + i) (get_or text i 0)) (at + (i + 1)) (drop (i + 1) text)
+copied_more {l} {m} {at} text i h r =
+    let k : i + 1 ≡ suc i = omega arith in
+    let e : drop i text ≡ (get_or text i 0 ∷ []) ++ drop (i + 1) text = rw (k, drop-cons text i 0 h) in
+    let n : at + i + 1 ≡ at + (i + 1) = omega arith in
+    rest_less (rw e at r) (rw n at (put_one m (at + i) (get_or text i 0)))
+
+pub copied_all : {l m : List ℕ} {at : ℕ} (text : List ℕ) (i : ℕ) → length text ≤ i → Rest l at text m (at + i) (drop i text) → Put l at text (at + i) m
+copied_all text i h r = rest-none (rw (drop_of_length-le text h) at r)

@@ -8,15 +8,15 @@ ghost use Rattle.wire.specs.Bytes.{Bytes};
 ghost use Rattle.printout.specs.Printout.{printout};
 ghost use Rattle.yearsheet.specs.Reading.{Brought, Taken, Inside};
 
+use std::env::FillError;
 use std::io::{ErrorKind, Read, Write};
 use std::process::ExitCode;
 use std::rt::Env;
-use std::{env, fmt, io};
+use std::{fmt, io};
 
 // Why nothing, or not all, was printed.
 #[derive(Debug, Drop)]
 enum Failure {
-    Arguments(io::Error),
     Input(io::Error),
     Output(io::Error),
 }
@@ -24,7 +24,6 @@ enum Failure {
 impl fmt::Display for Failure {
     fn fmt<W: fmt::Write>(&self, f: &mut fmt::Formatter<W>) -> fmt::Result {
         match self {
-            Failure::Arguments(error) => write!(f, "yearsheet: arguments: {error}"),
             Failure::Input(error) => write!(f, "yearsheet: standard input: {error}"),
             Failure::Output(error) => write!(f, "yearsheet: standard output: {error}"),
         }
@@ -90,9 +89,14 @@ fn run<R: Read, W: Write>(input: &mut R, output: &mut W) -> Result<(), Failure>
     print(output, &space[..n]).map_err(Failure::Output)
 }
 
-fn start<R: AllocGlobal + Env + Eprint + Input + Print>(rt: &R) -> Result<(), Failure> {
-    let words = env::args(rt).map_err(Failure::Arguments)?;
-    if 1 < words.count() {
+// Whether there is an argument, of any length, besides the program's name.
+fn has_argument<R: Env>(rt: &R) -> bool {
+    let mut start = [0u8; 1];
+    !matches!(rt.arg(1, &mut start), Err(FillError::NotPresent))
+}
+
+fn start<R: Env + Eprint + Input + Print>(rt: &R) -> Result<(), Failure> {
+    if has_argument(rt) {
         let _ = eprintln!(rt; "usage: yearsheet < DOSSIER");
         return Ok(());
     }
