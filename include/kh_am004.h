@@ -1,4 +1,4 @@
-/* The KH_AM004 forest credit reckoner for a host in C. Link with libreckoner.a, which `rt staticlib reckoner` makes for
+/* The KH_AM004 forest credit reckoner for a host in C. Link with libreckoner.a, which `tools/build reckoner_c` makes for
  * x86-64, where size_t has 64 bits. CHANGELOG.md has what each version brought. */
 #ifndef KH_AM004_H
 #define KH_AM004_H
