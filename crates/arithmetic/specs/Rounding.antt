@@ -1,4 +1,4 @@
--- The quotient rounded up, of which the law `ceilDiv-is` says what it is, and the positive part. (A quotient of naturals, n / d, is rounded down.)
+-- The quotient rounded up, of which the law `ceil_div-is` says what it is, and the positive part. (A quotient of naturals, n / d, is rounded down.)
 -- To be believed. Assumes nothing.
 use Rattle.std.specs.Prelude.{ℕ, ◌+◌, ◌-◌, ◌/◌, ℤ, pos, negsuc}
 

@@ -1,5 +1,5 @@
 -- The ladder of ranges: the greatest carbon and grams of each kind, by which every sum, difference and product of a reckoning fits 64 bits.
--- It stands on `greatestArea` and `greatestStock`, in Classes; each rung holds what those below it make (proofs/RangeLaws); the contracts of all crates cite them.
+-- It stands on `greatest_area` and `greatest_stock`, in Classes; each rung holds what those below it make (proofs/RangeLaws); the contracts of all crates cite them.
 -- A rung may have room to spare.
 -- Serves contracts of inner functions and proofs; nothing here has to be believed. Assumes nothing.
 use Rattle.std.specs.Prelude.{ℕ}

@@ -41,7 +41,7 @@ unfoldable pub run : ℕ → List Activity → Reader (List Activity)
 run zero before = upon activity_mark (refuse too_many_activities) (give before)
 run (suc more) before = upon activity_mark (do a ← another before; holds record_repeated (fresh before a); run more (before ++ (a ∷ []))) (give before)
 
--- "0 to 60 activity records", those before among them; activities-are in proofs/RunLaws is its equation without a count
+-- "0 to 60 activity records", those before among them; activities_are in proofs/RunLaws is its equation without a count
 unfoldable pub activities : List Activity → Reader (List Activity)
 activities before = run (60 - length before) before
 
@@ -65,7 +65,7 @@ none_left = do
   begin mark_yr 4
   refuse year_wrong
 
--- "year not the next, none left, or d wrong": 6; the records of the year that is due, for the totals of PA and DA; fromPlan is what the plan has
+-- "year not the next, none left, or d wrong": 6; the records of the year that is due, for the totals of PA and DA; from_plan is what the plan has
 -- for that year
 unfoldable pub year_records : (from_plan : Option (List Activity)) (due_year start beltstart : ℕ) → Reader Year
 year_records from_plan due_year start beltstart = do
