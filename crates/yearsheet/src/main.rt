@@ -103,11 +103,23 @@ fn start<R: Env + Eprint + Input + Print>(rt: &R) -> Result<(), Failure> {
     run(&mut rt.reader(), &mut io::writer(rt))
 }
 
+// What is said of a failure, without the system's number for it, which the library puts after its words.
+fn without_number(line: &str) -> &str {
+    match line.split_once(" (os error ") {
+        Some((words, _)) => words,
+        None => line,
+    }
+}
+
 fn main(rt: HostRuntime) -> ExitCode {
     match start(&rt) {
         Ok(()) => ExitCode::SUCCESS,
         Err(failure) => {
-            let _ = eprintln!(rt; "{failure}");
+            let said = match format!(in rt.alloc(); "{failure}") {
+                Ok(line) => eprintln!(rt; "{}", without_number(&line)),
+                Err(_) => eprintln!(rt; "{failure}"),
+            };
+            let _ = said;
             ExitCode::FAILURE
         }
     }
