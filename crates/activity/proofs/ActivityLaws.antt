@@ -11,9 +11,9 @@ use Rattle.arithmetic.specs.Rounding.{ceil_div}
 use Rattle.arithmetic.proofs.RoundingLaws.{ceil_div-le, cancel_up}
 use Rattle.arithmetic.proofs.TableLaws.{all, all-at}
 use Rattle.classes.specs.Ranges.{greatest_record}
-use Rattle.activity.specs.declared.Activity.{Activity}
-use Rattle.activity.specs.declared.FixingCrop.{FixingCrop}
-use Rattle.activity.specs.declared.Activity.TheVariants.{Fuel, Vehicles, Nitrogen, Lime, Residue}
+use Rattle.activity.specs.Records.{Activity}
+use Rattle.activity.specs.Records.{FixingCrop}
+use Rattle.activity.specs.Records.Activity.{Fuel, Vehicles, Nitrogen, Lime, Residue}
 use Rattle.activity.specs.Activity.{
   Within,
   fuel_factor,
@@ -36,14 +36,13 @@ n2o_share-le : (source crop : ℕ) → Within 1 source 3 → Within 1 crop 2 →
 unfolding all
 n2o_share-le source crop h k = kind_le (λ s. n2o_share s crop) 1425 (all-at 3 (λ c. all 4 (λ s. leb (n2o_share s c) 1425)) tt crop (omega arith)) source h
 
--- ---- a factor within its bound keeps the grams within theirs
-factor_grams_le : {grams factor greatest divisor : ℕ} → grams ≤ 1000000000000 → factor ≤ greatest → greatest ≤ 4 * divisor → 0 < divisor
-    → ceil_div (grams * factor) divisor ≤ greatest_record
-factor_grams_le g f b d = ceil_div-le _ _ _ d (omega (arith, mul-le-mul g f))
+-- ---- a factor or a weight within its bound keeps the grams within theirs
+pub factored_le : (grams factor divisor : ℕ) → grams ≤ 1000000000000 → factor ≤ 4 * divisor → 1 ≤ divisor → ceil_div (grams * factor) divisor ≤ greatest_record
+factored_le grams factor divisor g f d = ceil_div-le _ _ _ d (omega (arith, mul-le-mul g f))
 
-pub nitrogen-le : {nitrogen weight divisor : ℕ} → nitrogen ≤ 10000000 * divisor → weight ≤ 4671150 → 0 < divisor
+pub weighed_le : (nitrogen weight divisor : ℕ) → nitrogen ≤ 10000000 * divisor → weight ≤ 4671150 → 1 ≤ divisor
     → ceil_div (nitrogen * weight) divisor ≤ greatest_record
-nitrogen-le n w d = ceil_div-le _ _ _ d (omega (arith, mul-le-mul n w))
+weighed_le nitrogen weight divisor n w d = ceil_div-le _ _ _ d (omega (arith, mul-le-mul n w))
 
 -- ---- CR: its nitrogen's bound; its share is a multiple of 7, so that the quotient by 7 × 10^12 is one by 10^12
 pub part_le : {ratio content : ℕ} → ratio ≤ 500 → content ≤ 10000 → ratio * content ≤ 5000000
@@ -83,18 +82,18 @@ denominator_pos (Residue r) = lit≤ tt
 
 pub grams_le : (a : Activity) → ActivityInRange a → activity_grams a ≤ greatest_record
 unfolding activity_grams numerator denominator all
-grams_le (Fuel kind grams) h = factor_grams_le (omega arith) (kind_le fuel_factor 318630 tt kind h.0) (lit≤ tt) (lit≤ tt)
-grams_le (Vehicles kind count average rate) h = factor_grams_le (omega arith) (kind_le fuel_factor 318630 tt kind h.0) (lit≤ tt) (lit≤ tt)
+grams_le (Fuel kind grams) h = factored_le _ _ _ (omega arith) (kind_le fuel_factor 400000 tt kind h.0) (lit≤ tt)
+grams_le (Vehicles kind count average rate) h = factored_le _ _ _ (omega arith) (kind_le fuel_factor 400000 tt kind h.0) (lit≤ tt)
 grams_le (Nitrogen source crop grams content) h =
     let g : grams ≤ 10000000000 = omega arith in
     let c : content ≤ 10000 = omega arith in
     rw (mul_assoc (grams * content) (n2o_share source crop) 3278)
-    (nitrogen-le (omega (arith, mul-le-mul g c)) (omega (arith, n2o_share-le source crop h.0 h.1.0)) (lit≤ tt))
-grams_le (Lime material grams) h = factor_grams_le (omega arith) (kind_le lime_factor 220 tt material h.0) (lit≤ tt) (lit≤ tt)
+    (weighed_le _ _ _ (omega (arith, mul-le-mul g c)) (omega (arith, n2o_share-le source crop h.0 h.1.0)) (lit≤ tt))
+grams_le (Lime material grams) h = factored_le _ _ _ (omega arith) (kind_le lime_factor 1200 tt material h.0) (lit≤ tt)
 grams_le (Residue r) h =
     let source : Within 1 3 3 = record { least = lit≤ tt; most = lit≤ tt } in
     rw (mul_assoc (residue_nitrogen r) (n2o_share 3 r.crop) 3278)
-    (nitrogen-le (omega (arith, residue_nitrogen-le r h)) (omega (arith, n2o_share-le 3 r.crop source h.0)) (lit≤ tt))
+    (weighed_le _ _ _ (omega (arith, residue_nitrogen-le r h)) (omega (arith, n2o_share-le 3 r.crop source h.0)) (lit≤ tt))
 
 pub emissions-le : (records : List Activity) → ActivitiesInRange records → activity_emissions records ≤ greatest_record * length records
 unfolding activity_emissions

@@ -3,9 +3,9 @@
 use Prim.Native.Nat.{ℕ, ◌%◌}
 use mathlib.Core.Path.{◌≡◌, ap}
 use native.Mathlib.Omega.{arith}
-use Rattle.activity.specs.declared.Activity.{Activity}
-use Rattle.activity.specs.declared.Activity.TheVariants.{Fuel, Vehicles, Nitrogen, Lime, Residue}
-use Rattle.activity.specs.declared.FixingCrop.{FixingCrop}
+use Rattle.activity.specs.Records.{Activity}
+use Rattle.activity.specs.Records.Activity.{Fuel, Vehicles, Nitrogen, Lime, Residue}
+use Rattle.activity.specs.Records.{FixingCrop}
 use Rattle.activity.specs.declared.Words.{Words}
 use Rattle.activity.specs.Activity.{ActivityInRange}
 use Rattle.activity.specs.Key.{key}

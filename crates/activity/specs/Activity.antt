@@ -3,9 +3,9 @@
 -- To be believed. Assumes nothing.
 use Rattle.std.specs.Prelude.{ℕ, ◌+◌, ◌-◌, ◌*◌, ◌≤◌, ◌≡◌, List, [], ◌∷◌, length, get_or}
 use Rattle.arithmetic.specs.Rounding.{ceil_div}
-use Rattle.activity.specs.declared.Activity.{Activity}
-use Rattle.activity.specs.declared.FixingCrop.{FixingCrop}
-use Rattle.activity.specs.declared.Activity.TheVariants.{Fuel, Vehicles, Nitrogen, Lime, Residue}
+use Rattle.activity.specs.Records.{Activity}
+use Rattle.activity.specs.Records.{FixingCrop}
+use Rattle.activity.specs.Records.Activity.{Fuel, Vehicles, Nitrogen, Lime, Residue}
 
 -- from low to high, both included
 pub record Within (low x high : ℕ) : Type 0 where

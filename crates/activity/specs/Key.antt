@@ -2,8 +2,8 @@
 -- it is. CR alone needs the high one.
 -- Serves contracts of inner functions and proofs; nothing here has to be believed. Assumes nothing.
 use Rattle.std.specs.Prelude.{ℕ, ◌+◌, ◌*◌}
-use Rattle.activity.specs.declared.Activity.{Activity}
-use Rattle.activity.specs.declared.Activity.TheVariants.{Fuel, Vehicles, Nitrogen, Lime, Residue}
+use Rattle.activity.specs.Records.{Activity}
+use Rattle.activity.specs.Records.Activity.{Fuel, Vehicles, Nitrogen, Lime, Residue}
 use Rattle.activity.specs.declared.Words.{Words}
 
 abbrev pub two_words : (low high : ℕ) → Words

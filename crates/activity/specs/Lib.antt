@@ -1,2 +1,5 @@
+pub mod Records
 pub mod Activity
 pub mod Key
+pub mod Kinds
+pub mod Filed

@@ -20,7 +20,7 @@ use Rattle.classes.proofs.CalendarLaws.{divisor_pos}
 use Rattle.projection.specs.declared.Region.{Region}
 use Rattle.projection.specs.Projection.{area_total, projected_carbon}
 use Rattle.projection.proofs.ProjectionLaws.{million_pos}
-use Rattle.activity.specs.declared.Activity.{Activity}
+use Rattle.activity.specs.Records.{Activity}
 use Rattle.activity.specs.Activity.{numerator, denominator, activity_grams, activity_emissions}
 use Rattle.activity.proofs.ActivityLaws.{denominator_pos}
 use Rattle.figures.specs.declared.Terms.{Terms}

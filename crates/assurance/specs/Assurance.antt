@@ -2,7 +2,7 @@
 -- To be believed. Assumes nothing.
 use Rattle.std.specs.Prelude.{◌≡◌, List, ℕ, ◌+◌, ◌*◌, ◌≤◌, ◌<◌, ℤ, pos}
 use Rattle.arithmetic.specs.Fraction.{Fraction, ◌≤ᶠ◌, ◌<ᶠ◌, whole, ◌-ᶠ◌, ◌×ᶠ◌}
-use Rattle.classes.specs.declared.AreaUnits.{AreaUnits}
+use Rattle.units.specs.declared.AreaUnits.{AreaUnits}
 use Rattle.classes.specs.Classes.{classes}
 use Rattle.projection.specs.Projection.{area, area_total}
 

@@ -8,7 +8,7 @@ use Rattle.classes.specs.Classes.{classes, emission_factor}
 use Rattle.classes.specs.Matrix.{entry, million}
 use Rattle.classes.specs.Calendar.{days_in_year}
 use Rattle.projection.specs.Projection.{area}
-use Rattle.activity.specs.declared.Activity.{Activity}
+use Rattle.activity.specs.Records.{Activity}
 use Rattle.activity.specs.Activity.{numerator, denominator}
 use Rattle.activity.proofs.ActivityLaws.{denominator_pos}
 use Rattle.classes.proofs.CalendarLaws.{divisor_pos}

@@ -5,11 +5,13 @@ use mathlib.Core.List.{List, [], ◌∷◌}
 use Prim.Native.Nat.{ℕ, zero, suc, ◌-◌, ◌/◌, ◌%◌, ◌≤◌}
 use native.Mathlib.Omega.{arith}
 use lib.Dec.{eqb}
-use lib.ListN.{get_or}
-use Rattle.arithmetic.proofs.SumLaws.{listed_le}
+use mathlib.Core.Path.{refl}
+use lib.ListN.{get_or, replicate}
+use Rattle.arithmetic.proofs.SumLaws.{length-listed, listed_le}
 use Rattle.arithmetic.proofs.TableLaws.{at_most, entry-le}
 use Rattle.classes.specs.Classes.{class_tp, class_pp, carbon_stocks, emission_factor, greatest_in, greatest_stock}
 use Rattle.classes.specs.Matrix.{table_of}
+use Rattle.classes.specs.Ranges.{IsStocks, AreFactors}
 
 pub factor_le : (stocks : List ℕ) (S : ℕ) → ((i : ℕ) → get_or stocks i 0 ≤ S) → (i j : ℕ) → emission_factor stocks i j ≤ S
 unfolding emission_factor
@@ -36,3 +38,15 @@ built_in_le = entry-le greatest_stock carbon_stocks tt
 -- no entry of a table of f is above a bound of f
 pub table_le : (f : ℕ → ℕ → ℕ) (g : ℕ) → ((i j : ℕ) → f i j ≤ g) → (k : ℕ) → get_or (table_of f) k 0 ≤ g
 table_le f g h = listed_le 144 (λ k. f (k / 12) (k % 12)) g (λ k. h (k / 12) (k % 12))
+
+-- ---- what holds of the Factors of the code
+module _ (f : ℕ → ℕ → ℕ) (small : (i j : ℕ) → f i j ≤ greatest_stock) where
+  pub table-are_factors : AreFactors (table_of f)
+  table-are_factors = record { long = length-listed 144 (λ k. f (k / 12) (k % 12)); small = table_le f greatest_stock small }
+
+pub emission_are_factors : (stocks : List ℕ) → IsStocks stocks → AreFactors (table_of (emission_factor stocks))
+emission_are_factors stocks fit = table-are_factors (emission_factor stocks) (factor_le stocks greatest_stock fit.small)
+
+pub zeros_are_factors : AreFactors (replicate 144 0)
+unfolding at_most
+zeros_are_factors = record { long = refl; small = entry-le greatest_stock (replicate 144 0) tt }

@@ -1,5 +1,5 @@
 pub mod Tests
-pub mod FillLaws
+pub mod TableLaws
 pub mod MatrixLaws
 pub mod CalendarLaws
 pub mod FactorLaws

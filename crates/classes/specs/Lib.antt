@@ -1,5 +1,5 @@
 pub mod Classes
 pub mod Matrix
 pub mod Calendar
-pub mod Rows
+pub mod Tables
 pub mod Ranges

@@ -1,34 +1,22 @@
-// Units, land use classes and their constant tables, and the calendar.
+//! The twelve land use classes: their constant tables, the matrix and the emission factors from class to class, and the calendar.
 #![tactic(auto)]
 
-ghost use Rattle.std.specs.Prelude.{◌≡◌, ◌+◌, ◌-◌, ◌^◌, ◌≤◌, ◌<◌, length, pos, ◌+ℤ◌, ◌-ℤ◌};
-ghost use Rattle.std.specs.Int.{w64};
-ghost use Rattle.std.proofs.Common.{SFits};
-ghost use Rattle.classes.specs.Classes.{carbon_stocks, emission_factor};
-ghost use Rattle.classes.specs.Matrix.{table_of, option_one, option_one_matrix};
-ghost use Rattle.classes.specs.Rows.{with_row};
+ghost use Rattle.std.specs.Prelude.{◌≡◌, ◌+◌, ◌*◌, ◌<◌, ◌≤◌, replicate};
+ghost use Rattle.classes.specs.Classes.{carbon_stocks, emission_factor, greatest_stock};
+ghost use Rattle.classes.specs.Matrix.{entry, table_of, million, option_one, option_one_matrix};
+ghost use Rattle.classes.specs.Tables.{IsTableBy, TakesClasses};
 ghost use Rattle.classes.specs.Calendar.{days_in_year};
 
-// An area, in millionths of a hectare.
-#[derive(Clone, Copy)]
-pub struct AreaUnits(pub u64);
+use std::marker::Model;
 
-// Carbon, in units of 10^-8 tC.
-#[derive(Clone, Copy)]
-pub struct CarbonUnits(pub u64);
-
-// CO2 (of fertilizer CO2-equivalent), in grams.
-#[derive(Clone, Copy)]
-pub struct Grams(pub i64);
-
-// Tree plantation, pine plantation and non-forest: their places among the twelve classes.
+/// Tree plantation, pine plantation and non-forest: their places among the twelve classes.
 pub const TP: usize = 9;
 
 pub const PP: usize = 10;
 
 pub const NF: usize = 11;
 
-// Built-in carbon stock by class, hundredths of tC per ha (document 001, table 1).
+/// Built-in carbon stock by class, in hundredths of tC per ha (the methodology's table 1, total biomass).
 const CARBON_STOCKS: [u64; 12] = [
     9130, // E
     13511, // SE
@@ -44,7 +32,7 @@ const CARBON_STOCKS: [u64; 12] = [
     0, // NF
 ];
 
-// Annual probability of deforestation by class, millionths (document 001, table 4).
+/// Annual probability of deforestation by class, in millionths (the methodology's table 4).
 const DEFORESTATION_PROBABILITIES: [u64; 12] = [
     24900, // E
     30900, // SE
@@ -60,167 +48,210 @@ const DEFORESTATION_PROBABILITIES: [u64; 12] = [
     0, // NF
 ];
 
-impl AreaUnits {
-    pub fn plus(self, other: AreaUnits) -> AreaUnits
-        requires { self.0 + other.0 < 2 ^ 64 }
-        ensures { result.0 ≡ self.0 + other.0 }
-    {
-        AreaUnits(self.0 + other.0)
-    }
-
-    pub fn minus(self, other: AreaUnits) -> AreaUnits
-        requires { other.0 ≤ self.0 }
-        ensures { result.0 ≡ self.0 - other.0 }
-    {
-        AreaUnits(self.0 - other.0)
-    }
+/// Carbon stocks by class, in hundredths of tC per ha; each is at most 50,000.
+#[derive(Clone, Copy, Debug)]
+pub struct Stocks {
+    pub by_class: [u64; 12],
 }
 
-impl CarbonUnits {
-    pub fn plus(self, other: CarbonUnits) -> CarbonUnits
-        requires { self.0 + other.0 < 2 ^ 64 }
-        ensures { result.0 ≡ self.0 + other.0 }
-    {
-        CarbonUnits(self.0 + other.0)
-    }
+impl Model for Stocks {
+    ghost use Rattle.std.specs.Prelude.{ℕ, List};
+    ghost use Rattle.classes.specs.Ranges.{IsStocks};
+
+    ghost Value = { List ℕ };
+
+    ghost view = { λ stocks. stocks.by_class };
+
+    ghost inverse = { λ by_class. record { by_class = by_class } };
+
+    ghost invariant = { λ stocks. IsStocks stocks.by_class };
 }
 
-impl Grams {
-    // n grams.
-    pub fn of(n: u64) -> Grams
-        requires { n < 2 ^ 63 }
-        ensures { result.0 ≡ pos n }
-    {
-        Grams(n as i64)
-    }
-
-    pub fn plus(self, other: Grams) -> Grams
-        requires { SFits w64 (self.0 +ℤ other.0) }
-        ensures { result.0 ≡ self.0 +ℤ other.0 }
-    {
-        Grams(self.0 + other.0)
-    }
-
-    pub fn minus(self, other: Grams) -> Grams
-        requires { SFits w64 (self.0 -ℤ other.0) }
-        ensures { result.0 ≡ self.0 -ℤ other.0 }
-    {
-        Grams(self.0 - other.0)
-    }
+/// Annual probabilities of conversion from class to class, in millionths, row by row; no row sums to more than 1,000,000.
+#[derive(Clone, Copy, Debug)]
+pub struct Matrix {
+    pub entries: [u64; 144],
 }
 
-// Fills a list with the built-in carbon stocks, class by class.
-#[tactic(auto, unfolding(arithmetic::specs::Sum::listed, crate::specs::Classes::carbon_stocks))]
-pub fn fill_carbon_stocks(stocks: &mut [u64; 12])
-    requires { length stocks.old ≡ 12 }
-    ensures { stocks.new ≡ carbon_stocks }
+impl Model for Matrix {
+    ghost use Rattle.std.specs.Prelude.{ℕ, List};
+    ghost use Rattle.classes.specs.Ranges.{IsMatrix};
+
+    ghost Value = { List ℕ };
+
+    ghost view = { λ matrix. matrix.entries };
+
+    ghost inverse = { λ entries. record { entries = entries } };
+
+    ghost invariant = { λ matrix. IsMatrix matrix.entries };
+}
+
+/// Emission factors from class to class, in hundredths of tC per ha, row by row; each is at most 50,000.
+#[derive(Clone, Copy, Debug)]
+pub struct Factors {
+    pub entries: [u64; 144],
+}
+
+impl Model for Factors {
+    ghost use Rattle.std.specs.Prelude.{ℕ, List};
+    ghost use Rattle.classes.specs.Ranges.{AreFactors};
+
+    ghost Value = { List ℕ };
+
+    ghost view = { λ factors. factors.entries };
+
+    ghost inverse = { λ entries. record { entries = entries } };
+
+    ghost invariant = { λ factors. AreFactors factors.entries };
+}
+
+/// The place of a pair of classes in a table.
+fn place(from: usize, to: usize) -> usize
+    requires from_class { from < 12 }
+    requires to_class { to < 12 }
+    ensures { result ≡ 12 * from + to }
 {
-    let mut i: usize = 0;
-    while i < 12 {
-        stocks[i] = CARBON_STOCKS[i];
-        i += 1;
+    12 * from + to
+}
+
+/// Fills a table with the number of each pair of classes, row by row.
+pub fn fill_table<F: Fn(usize, usize) -> u64>(table: &mut [u64; 144], entry: F)
+    requires { TakesClasses (F.pre entry) }
+    ensures { IsTableBy (F.post entry) table.new }
+{
+    for from in 0..12 {
+        for to in 0..12 {
+            table[place(from, to)] = entry(from, to);
+        }
     }
 }
 
-// The emission factor from class i to class j.
+/// The emission factor from one class to another, in hundredths of tC per ha.
 #[tactic(auto, unfolding(crate::specs::Classes::emission_factor))]
-fn emission_factor(stocks: &[u64; 12], i: usize, j: usize) -> u64
-    requires i_bound { i < 12 }
-    requires j_bound { j < 12 }
-    ensures { result ≡ emission_factor stocks.now i j }
+fn emission_factor(stocks: &[u64; 12], from: usize, to: usize) -> u64
+    requires from_class { from < 12 }
+    requires to_class { to < 12 }
+    ensures { result ≡ emission_factor stocks.now from to }
 {
-    if j == TP {
-        return 0;
-    }
-    if j == PP {
-        return 0;
-    }
-    let from = stocks[i];
-    let to = stocks[j];
-    if to < from { from - to } else { 0 }
-}
-
-// Stores the emission factors from class i as row i of a table.
-#[tactic(auto, unfolding(arithmetic::specs::Sum::listed))]
-fn fill_factor_row(factors: &mut [u64; 144], stocks: &[u64; 12], i: usize)
-    requires { i < 12 }
-    ensures { factors.new ≡ with_row factors.old i (emission_factor stocks.now i) }
-{
-    let mut j: usize = 0;
-    while j < 12 {
-        factors[12 * i + j] = emission_factor(stocks, i, j);
-        j += 1;
+    if to == TP || to == PP {
+        0
+    } else {
+        stocks[from].saturating_sub(stocks[to])
     }
 }
 
-// Fills a table with the emission factors of all pairs of classes.
-#[tactic(auto, unfolding(arithmetic::specs::Sum::listed))]
-pub fn fill_factors(factors: &mut [u64; 144], stocks: &[u64; 12])
-    requires { length factors.old ≡ 144 }
-    ensures { factors.new ≡ table_of (emission_factor stocks.now) }
-{
-    let mut i: usize = 0;
-    while i < 12 {
-        fill_factor_row(factors, stocks, i);
-        i += 1;
-    }
-}
-
-// Option 1's probability from class i to class j.
+/// Option 1's annual probability of conversion from one class to another, in millionths.
 #[tactic(auto, using(crate::proofs::MatrixLaws::deforestation_le), unfolding(crate::specs::Matrix::option_one, crate::specs::Classes::deforestation_probabilities))]
-fn option_one(i: usize, j: usize) -> u64
-    requires { i < 12 }
-    ensures { result ≡ option_one i j }
+fn option_one(from: usize, to: usize) -> u64
+    requires from_class { from < 12 }
+    ensures { result ≡ option_one from to }
 {
-    if j == i {
-        return 1_000_000 - DEFORESTATION_PROBABILITIES[i];
-    }
-    if j == NF {
-        DEFORESTATION_PROBABILITIES[i]
+    if to == from {
+        1_000_000 - DEFORESTATION_PROBABILITIES[from]
+    } else if to == NF {
+        DEFORESTATION_PROBABILITIES[from]
     } else {
         0
     }
 }
 
-// Stores Option 1's probabilities from class i as row i of a matrix.
-#[tactic(auto, unfolding(arithmetic::specs::Sum::listed))]
-fn fill_option_one_row(matrix: &mut [u64; 144], i: usize)
-    requires { i < 12 }
-    ensures { matrix.new ≡ with_row matrix.old i (option_one i) }
-{
-    let mut j: usize = 0;
-    while j < 12 {
-        matrix[12 * i + j] = option_one(i, j);
-        j += 1;
+impl Stocks {
+    /// The built-in stocks.
+    #[tactic(auto, unfolding(crate::specs::Classes::carbon_stocks), using(crate::proofs::FactorLaws::built_in_le))]
+    pub fn built_in() -> Stocks
+        ensures { result ≡ carbon_stocks }
+    {
+        Stocks {
+            by_class: CARBON_STOCKS,
+        }
+    }
+
+    /// No stock in any class.
+    pub fn none() -> Stocks
+        ensures { result ≡ replicate 12 0 }
+    {
+        Stocks { by_class: [0; 12] }
     }
 }
 
-// Fills a matrix with Option 1's probabilities.
-#[tactic(auto, unfolding(arithmetic::specs::Sum::listed, crate::specs::Matrix::option_one_matrix))]
-pub fn fill_option_one(matrix: &mut [u64; 144])
-    requires { length matrix.old ≡ 144 }
-    ensures { matrix.new ≡ option_one_matrix }
-{
-    let mut i: usize = 0;
-    while i < 12 {
-        fill_option_one_row(matrix, i);
-        i += 1;
+impl Matrix {
+    /// Option 1's matrix.
+    pub fn option_one() -> Matrix
+        ensures { result ≡ option_one_matrix }
+    {
+        let mut entries = [0; 144];
+        fill_table(&mut entries, |from, to| option_one(from, to));
+        Matrix { entries }
+    }
+
+    /// No conversion at all, not even of a class into itself.
+    #[tactic(auto, using(crate::proofs::MatrixLaws::zeros_are_matrix))]
+    pub fn none() -> Matrix
+        ensures { result ≡ replicate 144 0 }
+    {
+        Matrix { entries: [0; 144] }
+    }
+
+    /// The annual probability of conversion from one class to another, in millionths.
+    #[tactic(auto, using(crate::proofs::MatrixLaws::probability_le))]
+    pub fn probability(&self, from: usize, to: usize) -> u64
+        requires from_class { from < 12 }
+        requires to_class { to < 12 }
+        ensures value { result ≡ entry self.now from to }
+        ensures small { result ≤ million }
+    {
+        self.entries[place(from, to)]
     }
 }
 
-// The days of a Gregorian year.
+impl Factors {
+    /// No factor above 0.
+    #[tactic(auto, using(crate::proofs::FactorLaws::zeros_are_factors))]
+    pub fn none() -> Factors
+        ensures { result ≡ replicate 144 0 }
+    {
+        Factors { entries: [0; 144] }
+    }
+
+    /// Takes the emission factors by these stocks.
+    pub fn take_stocks(&mut self, stocks: &Stocks)
+        ensures { self.new ≡ table_of (emission_factor stocks.now) }
+    {
+        let stocks = &stocks.by_class;
+        fill_table(
+            &mut self.entries,
+            |from, to| emission_factor(stocks, from, to),
+        );
+    }
+
+    /// The emission factors by these stocks.
+    pub fn of_stocks(stocks: &Stocks) -> Factors
+        ensures { result ≡ table_of (emission_factor stocks.now) }
+    {
+        let mut factors = Factors::none();
+        factors.take_stocks(stocks);
+        factors
+    }
+
+    /// The emission factor from one class to another, in hundredths of tC per ha.
+    pub fn factor(&self, from: usize, to: usize) -> u64
+        requires from_class { from < 12 }
+        requires to_class { to < 12 }
+        ensures value { result ≡ entry self.now from to }
+        ensures small { result ≤ greatest_stock }
+    {
+        self.entries[place(from, to)]
+    }
+}
+
+/// The days of a Gregorian year.
 #[tactic(auto, unfolding(crate::specs::Calendar::days_in_year))]
 pub fn days_in_year(year: u64) -> u64
     ensures { result ≡ days_in_year year }
 {
-    if year % 400 == 0 {
-        return 366;
+    if year % 400 == 0 || (year % 4 == 0 && year % 100 != 0) {
+        366
+    } else {
+        365
     }
-    if year % 100 == 0 {
-        return 365;
-    }
-    if year % 4 == 0 {
-        return 366;
-    }
-    365
 }

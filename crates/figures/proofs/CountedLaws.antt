@@ -12,7 +12,7 @@ use Rattle.classes.specs.Classes.{class_nf, emission_factor, greatest_stock}
 use Rattle.classes.specs.Matrix.{entry, table_of}
 use Rattle.classes.proofs.MatrixLaws.{entry-table_of, table_of_cong}
 use Rattle.classes.proofs.FactorLaws.{factor_le, table_le}
-use Rattle.projection.specs.Ranges.{FactorsFit}
+use Rattle.classes.specs.Ranges.{FactorsFit}
 use Rattle.figures.specs.Figures.{counted_factor}
 
 -- those of a table of factors are those of its factors

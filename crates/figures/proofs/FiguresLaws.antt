@@ -1,9 +1,9 @@
 -- A year's figures: what the code's sums and quotients come to, their ranges, and that a greater reduction never credits less.
 -- Assumes nothing.
-use mathlib.Core.Path.{◌≡◌}
+use mathlib.Core.Path.{◌≡◌, ◌∙◌, ap, sym}
 use mathlib.Core.List.{List}
-use Prim.Native.Nat.{ℕ, ◌+◌, ◌*◌, ◌≤◌, ◌<◌}
-use native.Mathlib.Nat.{le_trans, le_of_eq, mul-le-mul, mul-le-mul_left, mul-le-mul_right, div-le_of_le-mul}
+use Prim.Native.Nat.{ℕ, ◌+◌, ◌*◌, ◌/◌, ◌%◌, ◌≤◌, ◌<◌}
+use native.Mathlib.Nat.{le_trans, le_of_eq, mul_assoc, mul-le-mul, mul-le-mul_left, mul-le-mul_right, div-le_of_le-mul}
 use native.Mathlib.Omega.{arith}
 use lib.Dec.{lit≤}
 use lib.IntN.{ℤ, pos, negsuc, ◌-ℤ◌}
@@ -12,7 +12,7 @@ use lib.ListN.{get_or}
 use Rattle.arithmetic.specs.Sum.{sum}
 use Rattle.arithmetic.specs.Rounding.{positive_part}
 use Rattle.arithmetic.proofs.SumLaws.{sum_rows, sum2-le, sum2-mul}
-use Rattle.arithmetic.proofs.RoundingLaws.{ceil_div-le}
+use Rattle.arithmetic.proofs.RoundingLaws.{ceil_div-le, split_down}
 use Rattle.arithmetic.proofs.IntegerLaws.{above, below, parts_le, le_parts, mag_minus}
 use Rattle.classes.specs.Classes.{classes, greatest_area, greatest_stock}
 use Rattle.classes.specs.Matrix.{entry}
@@ -21,14 +21,14 @@ use Rattle.classes.specs.Ranges.{greatest_emissions, greatest_activity, greatest
 use Rattle.classes.proofs.CalendarLaws.{days_range}
 use Rattle.projection.specs.declared.Region.{Region}
 use Rattle.projection.specs.Projection.{area_total, projected_carbon}
-use Rattle.projection.specs.Ranges.{SmallRegion, RowsWithin}
+use Rattle.classes.specs.Ranges.{RowsWithin}
+use Rattle.projection.specs.Ranges.{SmallRegion}
 use Rattle.projection.proofs.ProjectionLaws.{projected_carbon-le}
-use Rattle.figures.specs.declared.Figures.{Figures}
 use Rattle.figures.specs.declared.YearCarbon.{YearCarbon}
 use Rattle.figures.specs.declared.YearDays.{YearDays}
 use Rattle.figures.specs.Figures.{reference_level, monitored_carbon, stock_change_emissions, displaced_emissions, reduction_of, credited_of, tonnes_of, figures_of}
 use Rattle.figures.specs.Carbon.{carbon_figures}
-use Rattle.figures.specs.Ranges.{SmallCarbon, SmallYear, SmallTable, DaysOf}
+use Rattle.figures.specs.Ranges.{SmallCarbon, SmallYear, SmallTable, DaysOf, FiguresSmall}
 
 -- the carbon of all conversions, place by place
 pub monitored_places : (conversions factors : List ℕ) → sum 144 (λ k. get_or conversions k 0 * get_or factors k 0) ≡ monitored_carbon (entry factors) conversions
@@ -58,6 +58,14 @@ module _ {carbon : ℕ} (small : SmallCarbon carbon) where
   unfolding reference_level
   reference-small days (h, positive, most) =
       omega (arith, div-le_of_le-mul (300 * days.calendar) {m = carbon * 11 * days.operating} {n = greatest_emissions} (omega (arith, mul-le-mul small h)))
+
+  -- the quotient weighed, and the remainder weighed and divided
+  pub reference_split : (days : YearDays) → DaysOf days
+      → carbon / (300 * days.calendar) * (11 * days.operating) + carbon % (300 * days.calendar) * (11 * days.operating) / (300 * days.calendar)
+      ≡ reference_level carbon days.operating days.calendar
+  unfolding reference_level
+  reference_split days h =
+      split_down carbon (11 * days.operating) (300 * days.calendar) (omega (arith, h.1)) ∙ ap (λ (n : ℕ). n / (300 * days.calendar)) (sym (mul_assoc carbon 11 days.operating))
 
   pub emissions-small : stock_change_emissions carbon ≤ greatest_emissions
   unfolding stock_change_emissions
@@ -106,16 +114,6 @@ reduction_steps reference project activity displaced r p a d =
     (omega arith, omega arith, omega arith)
 
 -- ---- each of the eight figures is within the ladder
-pub record FiguresSmall (figures : Figures) : Type 0 where
-  pub reference : mag figures.reference.0 < greatest_figure
-  pub project : mag figures.project.0 < greatest_figure
-  pub activity : mag figures.activity.0 < greatest_figure
-  pub belt : mag figures.belt.0 < greatest_figure
-  pub belt-reference : mag figures.belt_reference.0 < greatest_figure
-  pub displaced : mag figures.displaced.0 < greatest_figure
-  pub reduction : mag figures.reduction.0 < greatest_figure
-  pub credited : mag figures.credited.0 < greatest_figure
-
 pub figures-small : (reference project activity belt belt_reference : ℤ) → mag reference ≤ greatest_emissions → mag project ≤ greatest_emissions
     → mag activity ≤ greatest_activity → mag belt ≤ greatest_emissions → mag belt_reference ≤ greatest_emissions
     → FiguresSmall (figures_of reference project activity belt belt_reference)

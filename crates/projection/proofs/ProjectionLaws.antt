@@ -1,18 +1,25 @@
 -- The projection of any twelve areas: ranges, and what is kept.
 -- Assumes nothing.
-use mathlib.Core.Path.{◌≡◌, ap, ◌∙◌}
+use mathlib.Core.Path.{◌≡◌, refl, ap, ◌∙◌}
 use mathlib.Core.List.{List}
-use Prim.Native.Nat.{ℕ, ◌+◌, ◌*◌, ◌≤◌, ◌<◌}
+use Prim.Native.Nat.{ℕ, zero, suc, ◌+◌, ◌*◌, ◌≤◌, ◌<◌}
 use native.Mathlib.Nat.{zero-lt-suc, le_trans, mul-le-mul_left, mul-le-mul_right, mul_comm, le_of_eq, div-le_of_le-mul}
+use native.Mathlib.Numerals.{add-one}
 use native.Mathlib.Omega.{arith}
+use lib.ListN.{length, take}
+use lib.Seq.{take_all}
 use Rattle.arithmetic.specs.Sum.{sum}
 use Rattle.arithmetic.proofs.SumLaws.{sum_cong, sum-le, sum-mul, sum_part, sum-none, sum-next, sum_swap, term_le, get_or-listed}
-use Rattle.classes.specs.declared.AreaUnits.{AreaUnits}
+use Rattle.std.specs.Prelude.{sum_by}
+use Rattle.std.proofs.lemmas.List.Sums.{sum_by_more}
+use Rattle.units.specs.declared.AreaUnits.{AreaUnits}
+use Rattle.units.specs.Units.{total_area}
 use Rattle.classes.specs.Classes.{classes, greatest_stock}
 use Rattle.classes.specs.Matrix.{entry, million}
 use Rattle.projection.specs.Projection.{area, area_total, flow, next_area, next_areas, projected_carbon, lost_area}
 use Rattle.projection.specs.Inflow.{inflow_carbon}
-use Rattle.projection.specs.Ranges.{RowsWithin, FactorsFit}
+use Rattle.classes.specs.Ranges.{RowsWithin, FactorsFit}
+use Rattle.classes.proofs.MatrixLaws.{probability_le}
 use Rattle.projection.proofs.FlowLaws as F
 
 pub million_pos : 0 < million
@@ -25,11 +32,14 @@ next_area_lem areas matrix j h = ap (λ (a : AreaUnits). a.0) (get_or-listed cla
 pub next-total : (areas : List AreaUnits) (matrix : List ℕ) → area_total (next_areas areas matrix) ≡ sum classes (next_area areas matrix)
 next-total areas matrix = sum_cong classes (area (next_areas areas matrix)) (next_area areas matrix) (λ j h. next_area_lem areas matrix j h)
 
--- the next partial sum is at most the whole
-pub area_step : (areas : List AreaUnits) (i : ℕ) → i < 12 → sum i (area areas) + area areas i ≤ area_total areas
-area_step areas i h = omega (arith, sum-next i (area areas), sum_part (i + 1) 12 (area areas) (omega arith))
+-- the total of a list of twelve areas is their total by class
+first_areas : (areas : List AreaUnits) (n : ℕ) → n ≤ length areas → sum_by (λ (a : AreaUnits). a.0) (take n areas) ≡ sum n (area areas)
+unfolding sum
+first_areas areas zero h = refl
+first_areas areas (suc n) h = rw (← add-one) (sum_by_more (λ (a : AreaUnits). a.0) areas n (record { 0 = 0 }) h) ∙ ap (λ (k : ℕ). k + area areas n) (first_areas areas n (omega arith))
 
-pub ruleset area_turns = (sum-none, sum-next, area_step)
+pub total_by_class : (areas : List AreaUnits) → length areas ≡ 12 → total_area areas ≡ area_total areas
+total_by_class areas twelve = rw (take_all 12 areas (omega arith)) at (first_areas areas 12 (omega arith))
 
 -- the carbon of all flows, column by column
 pub carbon_columns : (factor : ℕ → ℕ → ℕ) (areas : List AreaUnits) (matrix : List ℕ) → sum classes (inflow_carbon factor areas matrix) ≡ projected_carbon factor areas matrix
@@ -40,17 +50,21 @@ carbon_columns factor areas matrix = sum_swap classes classes (λ j i. flow area
 pub fitting_le : (factors : List ℕ) → FactorsFit factors → (i j : ℕ) → entry factors i j ≤ greatest_stock
 fitting_le factors fit i j = fit (12 * i + j)
 
+-- no area is above the total
+pub area_le : (areas : List AreaUnits) (i : ℕ) → i < classes → area areas i ≤ area_total areas
+area_le areas i h = term_le classes (area areas) i h
+
+-- for a loop over the classes
+pub ruleset class_turns = (sum-none, sum-next, area_le, probability_le)
+
 module _ (areas : List AreaUnits) (matrix : List ℕ) (rows : RowsWithin matrix) where
   -- the areas after the year and what rounding lost make up the areas before it
   pub areas-kept : area_total (next_areas areas matrix) + lost_area areas matrix ≡ area_total areas
   unfolding lost_area next_area
   areas-kept = ap (λ (n : ℕ). n + lost_area areas matrix) (next-total areas matrix) ∙ F.kept classes million million_pos (area areas) (entry matrix) rows
 
-  pub probability_le : (i j : ℕ) → i < classes → j < classes → entry matrix i j ≤ million
-  probability_le i j hi hj = le_trans (term_le classes (entry matrix i) j hj) (rows i hi)
-
   flow-le : (i j : ℕ) → i < classes → j < classes → flow areas matrix i j ≤ area areas i
-  flow-le i j hi hj = div-le_of_le-mul million (le_trans (mul-le-mul_left (area areas i) (probability_le i j hi hj)) (le_of_eq (mul_comm (area areas i) million)))
+  flow-le i j hi hj = div-le_of_le-mul million (le_trans (mul-le-mul_left (area areas i) (probability_le matrix rows i j hi hj)) (le_of_eq (mul_comm (area areas i) million)))
 
   -- the flows into class j from the first n classes, and their carbon by factors of at most g
   pub inflow_le : (n j : ℕ) → n ≤ classes → j < classes → sum n (λ i. flow areas matrix i j) ≤ area_total areas

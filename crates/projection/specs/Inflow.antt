@@ -2,7 +2,7 @@
 -- Serves contracts of inner functions and proofs; nothing here has to be believed. Assumes nothing.
 use Rattle.std.specs.Prelude.{ℕ, ◌*◌, List}
 use Rattle.arithmetic.specs.Sum.{sum}
-use Rattle.classes.specs.declared.AreaUnits.{AreaUnits}
+use Rattle.units.specs.declared.AreaUnits.{AreaUnits}
 use Rattle.classes.specs.Classes.{classes}
 use Rattle.projection.specs.declared.Region.{Region}
 use Rattle.projection.specs.declared.Projected.{Projected}

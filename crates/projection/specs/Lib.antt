@@ -1,3 +1,4 @@
+pub mod Values
 pub mod Projection
 pub mod Ranges
 pub mod Inflow

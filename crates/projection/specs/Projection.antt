@@ -2,7 +2,7 @@
 -- To be believed. Assumes nothing.
 use Rattle.std.specs.Prelude.{ℕ, ◌+◌, ◌-◌, ◌*◌, ◌/◌, List, get_or}
 use Rattle.arithmetic.specs.Sum.{sum, listed}
-use Rattle.classes.specs.declared.AreaUnits.{AreaUnits}
+use Rattle.units.specs.declared.AreaUnits.{AreaUnits}
 use Rattle.classes.specs.Classes.{classes}
 use Rattle.classes.specs.Matrix.{entry, million}
 use Rattle.projection.specs.declared.Region.{Region}
