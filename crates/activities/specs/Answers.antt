@@ -1,80 +1,55 @@
--- What the answers say: document 01's number, or what was read and the bytes left.
+-- What is read of a year's activity records.
 -- Serves contracts of inner functions and proofs; nothing here has to be believed. Assumes nothing.
-use Rattle.std.specs.Prelude.{ℕ, ◌≤◌, ◌≡◌, Bool, true, false, cond, List, [], ◌∷◌, map, pos, length, take, drop}
-use Rattle.std.specs.Int.Signed.{mag}
-use Rattle.classes.specs.declared.Grams.{Grams}
-use Rattle.classes.specs.Ranges.{greatest_activity}
-use Rattle.activity.specs.declared.Activity.{Activity}
-use Rattle.activity.specs.Activity.{Range, ActivitiesInRange, activity_emissions}
+use Rattle.std.specs.Prelude.{ℕ, ◌≤◌, ◌<◌, ◌≡◌, true, false, List, [], Option, Some, None, Result, map, pos, length, take, drop, IfOk, if◌then◌else◌}
+use Rattle.units.specs.declared.Grams.{Grams}
+use Rattle.refusals.specs.declared.Refusal.{Refusal}
+use Rattle.activity.specs.declared.records.Activity.{Activity as Typed}
+use Rattle.activity.specs.declared.Words.{Words}
+use Rattle.activity.specs.Records.{Activity}
+use Rattle.activity.specs.Activity.{ActivitiesInRange, activity_emissions}
+use Rattle.activity.specs.Filed.{as_filed}
 use Rattle.activity.specs.Key.{key}
-use Rattle.pairs.specs.Pairs.{keys, some_equal}
-use Rattle.dossier.specs.Causes.{mark_not_due, record_repeated}
-use Rattle.dossier.specs.Reader.{Judged, refused, accepted, Reader, ◌>>=◌, give, outside}
-use Rattle.dossier.specs.JudgingRecords.{activity_mark}
+use Rattle.wire.specs.Bytes.{number}
+use Rattle.pairs.specs.Pairs.{some_equal}
+use Rattle.dossier.specs.Causes.{record_repeated}
+use Rattle.dossier.specs.Reader.{refused, Reader, ◌>>=◌, give}
+use Rattle.dossier.specs.JudgingRecords.{activity_mark, activity_under}
 use Rattle.dossier.specs.Judging.{activities}
-use Rattle.activities.specs.declared.ActivityAnswer.{ActivityAnswer}
-use Rattle.activities.specs.declared.Records.{Records}
-use Rattle.activities.specs.declared.RunAnswer.{RunAnswer}
-
--- ---- whether a number is out of its range
-abbrev pub any_outside : List Range → Bool
-any_outside [] = false
-any_outside (r ∷ rest) = cond (outside r.low r.number r.high) true (any_outside rest)
+use Rattle.cursor.specs.Says.{says}
 
 -- ---- one activity record
-abbrev pub activity_says : List ℕ → ActivityAnswer → Judged Activity
-activity_says s (ActivityAnswer.Read activity next) = accepted activity (drop next s)
-activity_says s (ActivityAnswer.Refused n) = refused n
-activity_says s ActivityAnswer.Over = refused mark_not_due
+-- the mark m stands here, and these bytes after it
+pub record Marked (s : List ℕ) (m : ℕ) (fields : List ℕ) : Type 0 where
+  pub long : 2 ≤ length s
+  pub mark : m ≡ number (take 2 s)
+  pub after : fields ≡ drop 2 s
 
-abbrev pub ActivityInside : List ℕ → ActivityAnswer → Type 0
-ActivityInside s (ActivityAnswer.Read activity next) = next ≤ length s
-ActivityInside s (ActivityAnswer.Refused n) = Unit {0}
-ActivityInside s ActivityAnswer.Over = ⊥
+-- the mark that stands here and the bytes after it; none where fewer than two bytes are left
+abbrev pub SaysMark : (s : List ℕ) → Option (ℕ × List ℕ) → Type 0
+SaysMark s (Some (m, fields)) = Marked s m fields
+SaysMark s None = length s < 2
 
--- whether m is the mark of an activity record, and what follows one that is read
-abbrev pub MarkedBy : ℕ → List ℕ → ActivityAnswer → Type 0
-MarkedBy m s (ActivityAnswer.Read activity next) = (activity_mark m ≡ true) × (next ≤ length s)
-MarkedBy m s (ActivityAnswer.Refused n) = activity_mark m ≡ true
-MarkedBy m s ActivityAnswer.Over = activity_mark m ≡ false
+-- a record after the mark m, and the bytes that are left; none where m is another mark
+abbrev pub SaysUnder : (m : ℕ) (old : List ℕ) → Option (Result Typed Refusal) → (new : List ℕ) → Type 0
+SaysUnder m old (Some result) new = (activity_mark m ≡ true) × (says as_filed result new ≡ activity_under m old)
+SaysUnder m old None new = activity_mark m ≡ false
 
 -- ---- a year's records, with their keys
--- the first words are those of the keys of these records, count of them
-pub record Keyed (records : List Activity) (low high : List ℕ) (count : ℕ) : Type 0 where
-  pub room : (length low ≡ 60) × (length high ≡ 60)
-  pub few : count ≤ 60
-  pub counted : length records ≡ count
+-- up to sixty records in range, and their keys
+pub record Keyed (records : List Activity) (keys : List Words) : Type 0 where
+  pub few : length records ≤ 60
   pub in_range : ActivitiesInRange records
-  pub told : take count (keys low high) ≡ map key records
+  pub told : keys ≡ map key records
 
--- what stopped the reading of these records
-abbrev pub stopped_by : (s : List ℕ) → List Activity → RunAnswer → Judged (List Activity)
-stopped_by s records (RunAnswer.Read grams next) = accepted records (drop next s)
-stopped_by s records (RunAnswer.Refused n) = refused n
-
--- the sum of their emissions, and the place after them, where none was refused
-abbrev pub Summed : (s : List ℕ) → List Activity → RunAnswer → Type 0
-Summed s records (RunAnswer.Read grams next) = (grams.0 ≡ pos (activity_emissions records)) × (next ≤ length s)
-Summed s records (RunAnswer.Refused n) = Unit {0}
-
--- a year's records are judged 14 where two keys are equal, otherwise as what stopped the reading says
-pub record RecordsSaid (s low high : List ℕ) (r : Records) : Type 0 where
+-- a year's records are judged a repetition where two keys are equal, otherwise as what stopped the reading says
+pub record RecordsSaid (old : List ℕ) (keys : List Words) (result : Result Grams Refusal) (new : List ℕ) : Type 0 where
   pub records : List Activity
-  pub keyed : Keyed records low high r.count
-  pub summed : Summed s records r.answer
-  pub judged : activities [] s ≡ cond (some_equal (take r.count (keys low high))) (refused record_repeated) (stopped_by s records r.answer)
+  pub keyed : Keyed records keys
+  pub summed : IfOk result (λ grams. grams.0 ≡ pos (activity_emissions records))
+  pub judged : activities [] old ≡ (if some_equal keys then refused record_repeated else says (λ grams. records) result new)
 
 -- ---- the sum of their emissions
 unfoldable pub summed_activities : Reader Grams
 summed_activities = do
   records ← activities []
   give (record { 0 = pos (activity_emissions records) })
-
-abbrev pub run_says : List ℕ → RunAnswer → Judged Grams
-run_says s (RunAnswer.Read grams next) = accepted grams (drop next s)
-run_says s (RunAnswer.Refused n) = refused n
-
--- what follows begins inside, and the sum is that of at most 60 records
-abbrev pub RunInside : List ℕ → RunAnswer → Type 0
-RunInside s (RunAnswer.Read grams next) = (next ≤ length s) × (mag grams.0 ≤ greatest_activity)
-RunInside s (RunAnswer.Refused n) = Unit {0}

@@ -1,2 +1,2 @@
-pub mod AtLaws
+pub mod FieldLaws
 pub mod Rulesets

@@ -8,12 +8,12 @@ use native.Mathlib.Omega.{arith}
 use borrow.Author.Tests.{eqb-true}
 use lib.Dec.{eqb, lit<, lit≤}
 use lib.ListN.{length, take, drop, length-append, length-drop}
-use Rattle.activity.specs.declared.Activity.{Activity}
-use Rattle.activity.specs.declared.Activity.TheVariants.{Fuel, Vehicles, Nitrogen, Lime, Residue}
+use Rattle.activity.specs.Records.{Activity}
+use Rattle.activity.specs.Records.Activity.{Fuel, Vehicles, Nitrogen, Lime, Residue}
 use Rattle.activity.specs.Activity.{ActivityInRange, residue_one}
 use Rattle.wire.specs.Bytes.{Bytes, number, bytes, total}
 use Rattle.dossier.specs.Layouts.{Layout, fuel, vehicles, nitrogen, lime, residue, layouts, layout_of, activity_bytes}
-use Rattle.dossier.specs.Reader.{accepted, ◌>>=◌, ◌>>◌, refuse, stands, present, field}
+use Rattle.dossier.specs.Reader.{accepted, refuse, stands, present, field, followed}
 use Rattle.dossier.specs.JudgingRecords.{fields_of, row_under, activity_mark, activity_under, activity}
 use Rattle.wire.proofs.BytesLaws.{length-bytes, bytes_drop, split, take-bytes, drop-bytes}
 use Rattle.dossier.proofs.ReaderLaws.{no, step, present-yes, present-only, stands-bytes}
@@ -117,11 +117,11 @@ size_most (Residue r) = lit≤ tt
 
 -- bytes long enough for a mark
 pub activity-is : (s : List ℕ) → 2 ≤ length s → activity s ≡ activity_under (number (take 2 s)) (drop 2 s)
-unfolding activity field ◌>>=◌ ◌>>◌
+unfolding activity field followed
 activity-is s h = rw (present-yes 2 s h)
 
 pub activity-long : (s : List ℕ) {a : Activity} {t : List ℕ} → activity s ≡ accepted a t → 2 ≤ length s
-unfolding activity ◌>>◌
+unfolding activity followed
 activity-long s q = (present-only 2 s (step (present 2 s) _ q).2).0
 
 under-row : (m : ℕ) (s : List ℕ) {a : Activity} {t : List ℕ} → activity_under m s ≡ accepted a t → (l : Layout) × Right l × (m ≡ l.mark) × (fields_of l s ≡ accepted a t)

@@ -7,13 +7,13 @@ use mathlib.Core.Option.{Option}
 use mathlib.Core.List.{List, [], ◌∷◌}
 use lib.Dec.{ltb, eqb}
 use lib.ListN.{length, take, drop}
-use Rattle.activity.specs.declared.Activity.{Activity}
+use Rattle.activity.specs.Records.{Activity}
 use Rattle.wire.specs.Bytes.{number}
 use Rattle.dossier.specs.Causes.{bytes_missing, mark_not_due, activity_out_of_range, too_many_activities, opening_causes, year_causes, ◌∈◌}
 use Rattle.dossier.specs.Marks.{mark_en}
 use Rattle.dossier.specs.Plan.{Plan}
 use Rattle.dossier.specs.Records.{Due}
-use Rattle.dossier.specs.Reader.{Judged, refused, accepted, Reader, after, ◌>>=◌, ◌>>◌, give, refuse, mark, stands, upon, present, begin, field, fields, nothing, end_of_piece}
+use Rattle.dossier.specs.Reader.{Judged, refused, accepted, Reader, after, ◌>>=◌, ◌>>◌, give, refuse, mark, stands, upon, present, begin, field, fields, nothing, end_of_piece, followed}
 use Rattle.dossier.specs.Judging.{another, dossier, opening_piece, year_piece}
 use Rattle.dossier.specs.JudgingPlan.{plan_end}
 use Rattle.dossier.proofs.ReaderLaws.{never}
@@ -32,7 +32,7 @@ module _ (allowed : List ℕ) (missing : bytes_missing ∈ allowed) (due : mark_
   -- with what is told of each value that r accepts
   told : {A B : Type 0} {r : Reader A} {k : A → Reader B} → Numbered allowed r → ((a : A) (s t : List ℕ) → r s ≡ accepted a t → Numbered allowed (k a))
       → Numbered allowed (r >>= k)
-  unfolding ◌>>=◌
+  unfolding followed
   told {A} {B} {r} {k} x f s n e = go (r s) refl e
     where
       go : (j : Judged A) → r s ≡ j → after j k ≡ refused n → n ∈ allowed
@@ -43,7 +43,7 @@ module _ (allowed : List ℕ) (missing : bytes_missing ∈ allowed) (due : mark_
   bind x y = told x (λ a s t e. y a)
 
   seq : {A B : Type 0} {r : Reader A} {q : Reader B} → Numbered allowed r → Numbered allowed q → Numbered allowed (r >> q)
-  unfolding ◌>>◌ ◌>>=◌
+  unfolding followed
   seq x y = bind x (λ _. y)
 
   choice : {A : Type 0} {r q : Reader A} (kind : ℕ → Bool) → Numbered allowed r → Numbered allowed q → Numbered allowed (upon kind r q)

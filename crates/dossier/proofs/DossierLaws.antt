@@ -16,7 +16,7 @@ use Rattle.dossier.specs.Marks.{mark_yr, mark_pl, mark_en}
 use Rattle.dossier.specs.Plan.{Plan, PlanLent}
 use Rattle.dossier.specs.Records.{Opening, OpeningInRange, opening_bytes, terms_of, state_of, Due, first_due, next, YearInRange, year_bytes, YearsInRange, Dossier, DossierInRange, dossier_bytes}
 use Rattle.dossier.specs.Claims.{DueInRange}
-use Rattle.dossier.specs.Reader.{accepted, after, ◌>>=◌, ◌>>◌, give, mark, is, stands, upon, nothing}
+use Rattle.dossier.specs.Reader.{accepted, after, give, mark, is, stands, upon, nothing, followed}
 use Rattle.dossier.specs.JudgingRecords.{activity_mark}
 use Rattle.dossier.specs.Judging.{none_left, year, end, years, dossier, opening_piece, year_piece}
 use Rattle.wire.proofs.BytesLaws.{bytes_after, length-bytes, take-bytes}
@@ -33,7 +33,7 @@ end-yes : end (bytes 2 mark_en ++ []) ≡ accepted tt []
 end-yes = end_there (bytes 2 mark_en ++ []) (simp (length-append, length-bytes) (omega arith)) (take-bytes 2 mark_en [] (lit< tt)) (simp (length-append, length-bytes) (omega arith))
 
 end-only : (s : List ℕ) → Bytes s → {x : Unit {0}} {t : List ℕ} → end s ≡ accepted x t → (s ≡ bytes 2 mark_en) × (t ≡ [])
-unfolding end upon ◌>>◌
+unfolding end upon followed
 end-only s bs {x} {t} q = go (stands (is mark_yr) s) q
   where
     go : (h : Bool) → cond h (none_left s) (after (mark mark_en s) (λ _. nothing)) ≡ accepted x t → (s ≡ bytes 2 mark_en) × (t ≡ [])
@@ -97,7 +97,7 @@ unfolding activity_mark
 year_beyond t = mark_beyond mark_yr t (lit< tt) refl refl
 
 pub years-step : (k : ℕ) (due : Due) (before : List Year) (s : List ℕ) {y : Year} {u : List ℕ} → year due s ≡ accepted y u → years (suc k) due before s ≡ years k (next y due) (before ++ (y ∷ [])) u
-unfolding years ◌>>=◌
+unfolding years followed
 years-step k due before s e = rw e
 
 -- years in range are read, and the judgement goes on at what follows them
@@ -117,7 +117,7 @@ years-reads : (k : ℕ) (due : Due) → Room k due → (before l : List Year) �
 unfolding years_bytes
 years-reads k due r before l n p =
     rw append_assoc (years_continue l 0 k (omega arith) due r before (bytes 2 mark_en ++ []) p (end_beyond [])
-    ∙ unfold years give ◌>>◌ in rw end-yes)
+    ∙ unfold years give followed in rw end-yes)
 
 -- more was read after before, then EN, and nothing follows
 record ReadYears (k : ℕ) (due : Due) (before : List Year) (s : List ℕ) (all : List Year) (t : List ℕ) : Type 0 where
@@ -147,7 +147,7 @@ years-more k due before s y u all t p e r = record {
 
 years-only : (k : ℕ) (due : Due) → Room k due → (before : List Year) (s : List ℕ) → Bytes s → (all : List Year) (t : List ℕ) → years k due before s ≡ accepted all t
     → ReadYears k due before s all t
-unfolding years give ◌>>=◌ ◌>>◌
+unfolding years give followed
 years-only zero due r before s bs all t q =
     let f = step (end s) (λ _. give before) q in
     let e = end-only s bs f.2 in

@@ -9,7 +9,7 @@ use native.Mathlib.Nat.{eq-or-lt_of_le, le_of_suc-le-suc}
 use native.Mathlib.Omega.{arith}
 use lib.Dec.{eqb}
 use Rattle.activity.specs.Activity.{Within}
-use Rattle.dossier.specs.Reader.{Judged, refused, accepted, Reader, after, ◌>>◌, give, outside, within, equal}
+use Rattle.dossier.specs.Reader.{Judged, refused, accepted, Reader, after, ◌>>◌, give, outside, within, equal, followed}
 use Rattle.dossier.specs.JudgingRecords.{each}
 use Rattle.dossier.proofs.ReaderLaws.{step, was, within-yes, within-only, equal-yes, equal-only}
 use Rattle.dossier.proofs.Exact.{Exact}
@@ -45,13 +45,13 @@ module _ {n : ℕ} {Holds : ℕ → Type 0} {test : ℕ → Reader (Unit {0})} (
   abbrev AllTo : ℕ → Type 0
   AllTo k = (i : ℕ) → i < k → Holds i
 
-  each-yes : (k : ℕ) (s : List ℕ) → AllTo k → each k test s ≡ accepted tt s
-  unfolding each give ◌>>◌
+  pub each-yes : (k : ℕ) (s : List ℕ) → AllTo k → each k test s ≡ accepted tt s
+  unfolding each give followed
   each-yes zero s h = refl
   each-yes (suc k) s h = rw (each-yes k s (λ i l. h i (omega arith))) (t.yes k s (h k (omega arith)))
 
   pub each-only : (k : ℕ) (s : List ℕ) {x : Unit {0}} {u : List ℕ} → each k test s ≡ accepted x u → AllTo k × (s ≡ u)
-  unfolding each give ◌>>◌
+  unfolding each give followed
   each-only zero s e = ((λ i l. absurd (omega arith)), (was e).1)
   each-only (suc k) s e =
       let f = step (each k test s) (λ _. test k) e in
@@ -64,7 +64,7 @@ module _ {n : ℕ} {Holds : ℕ → Type 0} {test : ℕ → Reader (Unit {0})} (
       one i a b (inr l) = a i l
 
   pub each-either : (k : ℕ) (s : List ℕ) → (each k test s ≡ accepted tt s) ⊎ (each k test s ≡ refused n)
-  unfolding each give ◌>>◌
+  unfolding each give followed
   each-either zero s = inl refl
   each-either (suc k) s = go (each k test s) (each-either k s)
     where
@@ -82,7 +82,7 @@ module _ {n : ℕ} {Holds : ℕ → Type 0} {test : ℕ → Reader (Unit {0})} (
 
   pub each_then : {B : Type 0} {C : B → Type 0} {P : B → List ℕ → Type 0} {m : ℕ} {r : Reader B} {e : B → List ℕ} (k : ℕ)
       → ((b : B) (u : List ℕ) → C b → P b u → AllTo k) → (AllTo k → Exact m C r e P) → Exact m C (each k test >> r) e P
-  unfolding ◌>>◌
+  unfolding followed
   each_then {r = r} {e = e} k f g = record {
     reads = λ b u c p. let h = f b u c p in rw (each-yes k (e b ++ u) h) ((g h).reads b u c p);
     only = λ s bs h b u q.

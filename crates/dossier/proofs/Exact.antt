@@ -8,7 +8,7 @@ use lib.ListN.{length, take, drop, length-append, length-drop}
 use lib.Seq.{drop_at}
 use Rattle.activity.specs.Activity.{Within}
 use Rattle.wire.specs.Bytes.{Bytes, number, bytes, numbers, bytes_of_each}
-use Rattle.dossier.specs.Reader.{accepted, Reader, ◌>>=◌, ◌>>◌, give, begin, field, fields, within, equal}
+use Rattle.dossier.specs.Reader.{accepted, Reader, ◌>>=◌, ◌>>◌, give, begin, field, fields, within, equal, followed}
 use Rattle.wire.proofs.BytesLaws.{bytes_drop, bytes_after, split, number-take-lt, take-bytes, drop-bytes, Below, length-each, length-numbers, numbers-each, split_each, numbers-below}
 use Rattle.dossier.proofs.ReaderLaws.{step, begin-yes, begin-only, within-yes, within-only, equal-yes, equal-only}
 
@@ -32,7 +32,7 @@ module _ {B : Type 0} {C : B → Type 0} {P : B → List ℕ → Type 0} where
   -- a mark and at least n bytes
   pub begin-first : {r : Reader B} {e : B → List ℕ} (m n : ℕ) → m < 65536 → ((b : B) (t : List ℕ) → C b → P b t → n ≤ length (e b)) → Exact n C r e P
       → Exact 0 C (begin m n >> r) (λ b. bytes 2 m ++ e b) P
-  unfolding ◌>>◌
+  unfolding followed
   begin-first {r} {e} m n h l x = record {
     reads = λ b t c p.
         let k : n ≤ length (e b ++ t) = simp length-append (omega (arith, l b t c p)) in
@@ -51,7 +51,7 @@ module _ {B : Type 0} {C : B → Type 0} {P : B → List ℕ → Type 0} where
 
   pub field_then : {n : ℕ} {k : ℕ → Reader B} {e : B → List ℕ} (w : ℕ) (get : B → ℕ) → ((b : B) (t : List ℕ) → C b → P b t → get b < 256 ^ w)
       → ((x : ℕ) → x < 256 ^ w → Exact n (λ b. C b × (get b ≡ x)) (k x) e P) → Exact (w + n) C (field w >>= k) (λ b. bytes w (get b) ++ e b) P
-  unfolding ◌>>=◌ field
+  unfolding followed field
   field_then {n} {k} {e} w get lt x = record {
     reads = λ b t c p.
         let h = lt b t c p in
@@ -67,7 +67,7 @@ module _ {B : Type 0} {C : B → Type 0} {P : B → List ℕ → Type 0} where
       → ((b : B) (t : List ℕ) → C b → P b t → (length (get b) ≡ j) × Below (256 ^ w) (get b))
       → ((xs : List ℕ) → length xs ≡ j → Below (256 ^ w) xs → Exact n (λ b. C b × (get b ≡ xs)) (k xs) e P)
       → Exact (j * w + n) C (fields j w >>= k) (λ b. bytes_of_each w (get b) ++ e b) P
-  unfolding ◌>>=◌ fields
+  unfolding followed fields
   fields_then {n} {k} {e} j w get lt x = record {
     reads = λ b t c p.
         let h = lt b t c p in
@@ -82,7 +82,7 @@ module _ {B : Type 0} {C : B → Type 0} {P : B → List ℕ → Type 0} where
 
   pub within_then : {n : ℕ} {r : Reader B} {e : B → List ℕ} (c low x high : ℕ) → ((b : B) (t : List ℕ) → C b → P b t → Within low x high)
       → (Within low x high → Exact n C r e P) → Exact n C (within c low x high >> r) e P
-  unfolding ◌>>◌
+  unfolding followed
   within_then {n} {r} {e} c low x high f g = record {
     reads = λ b t k p.
         let h = f b t k p in
@@ -95,7 +95,7 @@ module _ {B : Type 0} {C : B → Type 0} {P : B → List ℕ → Type 0} where
 
   pub equal_then : {n : ℕ} {r : Reader B} {e : B → List ℕ} (c x y : ℕ) → ((b : B) (t : List ℕ) → C b → P b t → x ≡ y)
       → (x ≡ y → Exact n C r e P) → Exact n C (equal c x y >> r) e P
-  unfolding ◌>>◌
+  unfolding followed
   equal_then {n} {r} {e} c x y f g = record {
     reads = λ b t k p. let h = f b t k p in rw (equal-yes c x y (e b ++ t) h) ((g h).reads b t k p);
     only = λ s bs h b t q.

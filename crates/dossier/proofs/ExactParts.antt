@@ -8,7 +8,7 @@ use mathlib.Core.List.{List, [], ◌++◌, append_assoc, append-nil}
 use native.Mathlib.Omega.{arith}
 use Rattle.wire.specs.Bytes.{Bytes}
 use Rattle.dossier.specs.Records.{bytes_if_any}
-use Rattle.dossier.specs.Reader.{accepted, Reader, after, ◌>>=◌, ◌>>◌, give, if_any, holds, end_of_piece}
+use Rattle.dossier.specs.Reader.{accepted, Reader, after, ◌>>=◌, ◌>>◌, give, if_any, holds, end_of_piece, followed}
 use Rattle.wire.proofs.BytesLaws.{bytes_after}
 use Rattle.dossier.proofs.ReaderLaws.{step, was, cond_accepted}
 use Rattle.dossier.proofs.Refusals.{piece_ends, piece_ends_only}
@@ -23,7 +23,7 @@ module _ {B : Type 0} {C : B → Type 0} {P : B → List ℕ → Type 0} where
   pub sub_then : {A : Type 0} {r : Reader A} {e' : A → List ℕ} {P' : A → List ℕ → Type 0} {k : A → Reader B} {e : B → List ℕ} (get : B → A)
       → Exact 0 (λ (a : A). Unit {0}) r e' P' → ((b : B) (t : List ℕ) → C b → P b t → P' (get b) (e b ++ t))
       → ((a : A) (u : List ℕ) → P' a u → Exact 0 (λ b. C b × (get b ≡ a)) (k a) e P) → Exact 0 C (r >>= k) (λ b. e' (get b) ++ e b) P
-  unfolding ◌>>=◌
+  unfolding followed
   sub_then {r = r} {e' = e'} {k = k} {e = e} get x f g = record {
     reads = λ b t c p.
         let h = f b t c p in
@@ -39,7 +39,7 @@ module _ {B : Type 0} {C : B → Type 0} {P : B → List ℕ → Type 0} where
   pub last_then : {A : Type 0} {r : Reader A} {e' : A → List ℕ} {P' : A → List ℕ → Type 0} (get : B → A) (make : A → B)
       → Exact 0 (λ (a : A). Unit {0}) r e' P' → ((b : B) (t : List ℕ) → C b → P b t → P' (get b) t × (make (get b) ≡ b))
       → ((a : A) (t : List ℕ) → P' a t → C (make a) × P (make a) t × (get (make a) ≡ a)) → Exact 0 C (r >>= λ a. give (make a)) (λ b. e' (get b) ++ []) P
-  unfolding ◌>>=◌ give
+  unfolding followed give
   last_then {r = r} {e' = e'} get make x f g = record {
     reads = λ b t c p.
         let h = f b t c p in
@@ -61,7 +61,7 @@ OptionThen there e P (some a) t = P a t × (there (e a ++ t) ≡ true)
 
 pub if_any_lem : {A : Type 0} {r : Reader A} {e : A → List ℕ} {P : A → List ℕ → Type 0} (there : List ℕ → Bool) → Exact 0 Any r e P
     → Exact 0 Any (if_any there r) (bytes_if_any e) (OptionThen there e P)
-unfolding if_any bytes_if_any ◌>>=◌ give
+unfolding if_any bytes_if_any followed give
 if_any_lem {A} {r} {e} {P} there x = record { reads = yes; only = λ s bs h m t q. only s bs m t (there s) refl q }
   where
     yes : (m : Option A) (t : List ℕ) → Any m → OptionThen there e P m t → if_any there r (bytes_if_any e m ++ t) ≡ accepted m t
@@ -94,7 +94,7 @@ recoded f x = record {
 -- a reader that must reach the end of its piece
 pub piece_exact : {A : Type 0} {r : Reader A} {e : A → List ℕ} {P : A → List ℕ → Type 0} → Exact 0 Any r e P
     → Exact 0 Any (r >>= λ a. end_of_piece >> give a) e (λ a t. P a t × (t ≡ []))
-unfolding ◌>>◌ ◌>>=◌ give
+unfolding followed give
 piece_exact {A} {r} {e} {P} x = record {
   reads = λ a t c p. rw (x.reads a t tt p.0) (ends_with a t p.1);
   only = λ s bs h a t q.
@@ -117,7 +117,7 @@ piece_exact {A} {r} {e} {P} x = record {
 -- a test of what was read
 pub checked : {A : Type 0} {r : Reader A} {e : A → List ℕ} {P : A → List ℕ → Type 0} (c : ℕ) (test : A → Bool) → Exact 0 Any r e P
     → Exact 0 Any (r >>= λ a. holds c (test a) >> give a) e (λ a t. P a t × (test a ≡ true))
-unfolding ◌>>◌ ◌>>=◌ give holds
+unfolding followed give holds
 checked {A} {r} {e} {P} c test x = record {
   reads = λ a t z p. rw (x.reads a t tt p.0, p.1);
   only = λ s bs h a t q.

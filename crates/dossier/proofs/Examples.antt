@@ -10,8 +10,8 @@ use Rattle.arithmetic.specs.Sum.{sum, listed}
 use Rattle.arithmetic.specs.Rounding.{ceil_div}
 use Rattle.classes.specs.Classes.{class_nf, carbon_stocks, deforestation_probabilities}
 use Rattle.classes.specs.Matrix.{option_one, option_one_matrix}
-use Rattle.activity.specs.declared.Activity.{Activity}
-use Rattle.activity.specs.declared.Activity.TheVariants.{Fuel, Vehicles, Nitrogen, Lime}
+use Rattle.activity.specs.Records.{Activity}
+use Rattle.activity.specs.Records.Activity.{Fuel, Vehicles, Nitrogen, Lime}
 use Rattle.activity.specs.Activity.{numerator, denominator, activity_grams}
 use Rattle.figures.specs.declared.Figures.{Figures}
 use Rattle.figures.specs.Figures.{displaced_emissions, reduction_of, credited_of, figures_of, small_activity}
@@ -21,7 +21,7 @@ use Rattle.dossier.specs.Layouts.{residue_of, activity_bytes, same, fresh}
 use Rattle.dossier.specs.Plan.{plan_year_bytes, plan_bytes}
 use Rattle.dossier.specs.Records.{stocks_bytes, matrix_bytes}
 use Rattle.dossier.specs.Claims.{number_of}
-use Rattle.dossier.specs.Reader.{◌>>=◌, ◌>>◌, give, refuse, mark, stands, upon, if_any, present, begin, field, fields, outside, within, equal, holds, nothing}
+use Rattle.dossier.specs.Reader.{give, refuse, mark, stands, upon, if_any, present, begin, field, fields, outside, within, equal, holds, nothing, followed}
 use Rattle.dossier.specs.JudgingRecords.{head, each, stocks, matrix, in_range, fields_of, activity_mark, activity_under, activity}
 use Rattle.dossier.specs.Judging.{another, run, activities}
 use Rattle.dossier.specs.JudgingPlan.{plan_year, plan_end, plan_years, plan, lent_plan}
@@ -33,7 +33,7 @@ head_of option first_year n = joined (bytes 2 mark_hd ∷ bytes 1 option ∷ byt
 
 heads : (number_of (head (head_of 1 2020 20)) ≡ 0) × (number_of (head (head_of 1 2020 21)) ≡ 3) × (number_of (head (head_of 3 2020 1)) ≡ 3) × (number_of (head (head_of 1 1999 1)) ≡ 3)
     × (number_of (head (take 5 (head_of 3 2020 1))) ≡ 1) × (number_of (head []) ≡ 1) × (number_of (head (72 ∷ [])) ≡ 1) × (number_of (head (72 ∷ 69 ∷ [])) ≡ 2)
-unfolding number bytes joined ◌>>=◌ ◌>>◌ give mark present begin field outside within head
+unfolding number bytes joined followed give mark present begin field outside within head
 heads = (refl, refl, refl, refl, refl, refl, refl, refl)
 
 -- ST: the built-in list may be filed, and one of 50,000 in each place but that of NF; 50,001 is 11 and so is 1 for NF, and 1 where ST is cut
@@ -45,12 +45,12 @@ number_with xs = number_of (stocks (stocks_bytes xs))
 
 filed : (number_with carbon_stocks ≡ 0) × (number_with greatest_stocks ≡ 0) × (number_with (replicate 12 0) ≡ 0) × (number_with (set greatest_stocks 0 50_001) ≡ 11)
     × (number_with (set greatest_stocks 10 50_001) ≡ 11) × (number_with (set greatest_stocks class_nf 1) ≡ 11) × (number_of (stocks (take 25 (stocks_bytes (set greatest_stocks 0 50_001)))) ≡ 1)
-unfolding carbon_stocks number bytes numbers bytes_of_each joined stocks_bytes ◌>>=◌ ◌>>◌ give mark present begin fields outside within equal each stocks
+unfolding carbon_stocks number bytes numbers bytes_of_each joined stocks_bytes followed give mark present begin fields outside within equal each stocks
 filed = (refl, refl, refl, refl, refl, refl, refl)
 
 -- MP: each row sums to 1,000,000; a row of 999,999 is 5
 matrices : (number_of (matrix (matrix_bytes option_one_matrix)) ≡ 0) × (number_of (matrix (matrix_bytes (set option_one_matrix 0 975099))) ≡ 5)
-unfolding sum listed deforestation_probabilities option_one option_one_matrix number bytes numbers bytes_of_each joined matrix_bytes ◌>>=◌ ◌>>◌ give mark present begin fields equal each matrix
+unfolding sum listed deforestation_probabilities option_one option_one_matrix number bytes numbers bytes_of_each joined matrix_bytes followed give mark present begin fields equal each matrix
 matrices = (refl, refl)
 
 -- each limit of an activity record, and its neighbour out of range; 394 × 501,001 × 5,066 is 10^12 + 4, the least product of VE above its limit;
@@ -77,7 +77,7 @@ number_from a = number_of (activity (activity_bytes a))
 
 limits_hold : (map (λ (l : Activity × Activity). number_from l.0) limits ≡ map (λ (l : Activity × Activity). 0) limits)
     × (map (λ (l : Activity × Activity). number_from l.1) limits ≡ map (λ (l : Activity × Activity). 8) limits)
-unfolding number bytes total activity_bytes ◌>>=◌ ◌>>◌ give present field outside within in_range fields_of activity_under activity
+unfolding number bytes total activity_bytes followed give present field outside within in_range fields_of activity_under activity
 limits_hold = (refl, refl)
 
 -- a plan (#103): none, EN alone, rising years, and the first year and the last that 16 bits say; 12 for equal or falling years, EN missing or cut, a byte
@@ -99,7 +99,7 @@ plans : (number_as [] ≡ 0) × (number_as (plan_of []) ≡ 0) × (number_as (pl
     × (number_as (plan_with (Lime 1 1 ∷ Lime 1 1 ∷ Lime 4 1 ∷ [])) ≡ 14) × (number_as (plan_with (Lime 4 1 ∷ Lime 1 1 ∷ Lime 1 1 ∷ [])) ≡ 12)
     × (number_as (plan_with (residue_on 1 ∷ residue_on 2 ∷ [])) ≡ 0) × (number_as (plan_with (residue_on 1 ∷ residue_on 1 ∷ [])) ≡ 14)
     × (number_as (plan_with (residue_on 1 ∷ residue_on 2 ∷ residue_on 3 ∷ [])) ≡ 12) × (number_as (plan_with (residue_on 1 ∷ residue_on 2 ∷ residue_on 1 ∷ [])) ≡ 12)
-unfolding number bytes joined total ◌>>=◌ ◌>>◌ give refuse mark stands upon if_any present begin field outside within holds nothing in_range fields_of activity_mark activity_under activity
+unfolding number bytes joined total followed give refuse mark stands upon if_any present begin field outside within holds nothing in_range fields_of activity_mark activity_under activity
     activity_bytes same fresh plan_year_bytes plan_bytes another run activities plan_year plan_end plan_years plan lent_plan
 plans = (refl, refl, refl, refl, refl, refl, refl, refl, refl, refl, refl, refl, refl, refl, refl, refl, refl, refl)
 

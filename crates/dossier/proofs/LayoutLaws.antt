@@ -6,11 +6,11 @@ use mathlib.Core.List.{List, [], ◌∷◌, ◌++◌, append_assoc}
 use native.Mathlib.Omega.{arith}
 use lib.ListN.{length, take, drop, length-append, length-drop}
 use lib.Seq.{drop-drop}
-use Rattle.activity.specs.declared.Activity.{Activity}
+use Rattle.activity.specs.Records.{Activity}
 use Rattle.activity.specs.Activity.{Range, ranges, InRanges, ActivityInRange}
 use Rattle.wire.specs.Bytes.{Bytes, number, bytes, total}
 use Rattle.dossier.specs.Layouts.{Made, Layout, layout_of, in_fields, activity_bytes}
-use Rattle.dossier.specs.Reader.{accepted, ◌>>=◌, ◌>>◌, give, present, field, within}
+use Rattle.dossier.specs.Reader.{accepted, give, present, field, within, followed}
 use Rattle.dossier.specs.JudgingRecords.{in_range, made_from, fields_of}
 use Rattle.wire.proofs.BytesLaws.{length-bytes, bytes_drop, split, take-bytes, drop-bytes}
 use Rattle.dossier.proofs.ReaderLaws.{step, was, present-yes, present-only, within-yes, within-only}
@@ -50,12 +50,12 @@ pub record Right (l : Layout) : Type 0 where
 
 -- ---- the ranges
 in_range-reads : (rs : List Range) (a : Activity) (t : List ℕ) → InRanges rs → in_range rs a t ≡ accepted a t
-unfolding in_range give ◌>>◌
+unfolding in_range give followed
 in_range-reads [] a t p = refl
 in_range-reads (r ∷ rest) a t p = rw (within-yes 8 r.low r.number r.high t p.0) (in_range-reads rest a t p.1)
 
 in_range-only : (rs : List Range) (b : Activity) (s : List ℕ) {a : Activity} {t : List ℕ} → in_range rs b s ≡ accepted a t → InRanges rs × (b ≡ a) × (s ≡ t)
-unfolding in_range give ◌>>◌
+unfolding in_range give followed
 in_range-only [] b s q = (tt, (was q).0, (was q).1)
 in_range-only (r ∷ rest) b s q =
     let f = step (within 8 r.low r.number r.high s) (λ _. in_range rest b) q in
@@ -95,7 +95,7 @@ length_fields (w ∷ widths) xs = rw (length-append, length-bytes, length_fields
 -- the record that is made of them, and its ranges
 made-is : (widths : List ℕ) (made : Made widths) (s : List ℕ)
     → let a = record_of widths made (numbers_at widths s) in made_from widths made s ≡ in_range (ranges a) a (drop (total widths) s)
-unfolding numbers_at total field ◌>>=◌
+unfolding numbers_at total field followed
 made-is [] a s = refl
 made-is (w ∷ widths) made s = rw (← drop-drop (total widths) w s) (made-is widths (made (number (take w s))) (drop w s))
 
@@ -103,7 +103,7 @@ made-is (w ∷ widths) made s = rw (← drop-drop (total widths) w s) (made-is w
 module _ (l : Layout) where
   pub row_reads : Right l → (xs : Numbers l.widths) (t : List ℕ) → ActivityInRange (record_of l.widths l.made xs)
       → fields_of l (field_bytes l.widths xs ++ t) ≡ accepted (record_of l.widths l.made xs) t
-  unfolding fields_of ◌>>◌
+  unfolding fields_of followed
   row_reads r xs t p =
       let s = field_bytes l.widths xs ++ t in
       let h : total l.widths ≤ length s = rw (length-append, length_fields l.widths xs) (omega arith) in
@@ -118,7 +118,7 @@ module _ (l : Layout) where
     left : drop (total l.widths) s ≡ t
 
   row-accepted : (s : List ℕ) {a : Activity} {t : List ℕ} → fields_of l s ≡ accepted a t → Accepted s a t
-  unfolding fields_of ◌>>◌
+  unfolding fields_of followed
   row-accepted s {a} {t} q =
       let f = step (present (total l.widths) s) (λ _. made_from l.widths l.made) q in
       let g = present-only (total l.widths) s f.2 in

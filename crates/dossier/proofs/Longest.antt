@@ -14,8 +14,8 @@ use Rattle.classes.specs.Matrix.{option_one, option_one_matrix}
 use Rattle.classes.proofs.CalendarLaws.{days_range}
 use Rattle.classes.proofs.FactorLaws.{built_in_le}
 use Rattle.classes.proofs.MatrixLaws.{option_one-rows}
-use Rattle.activity.specs.declared.Activity.{Activity}
-use Rattle.activity.specs.declared.Activity.TheVariants.{Vehicles}
+use Rattle.activity.specs.Records.{Activity}
+use Rattle.activity.specs.Records.Activity.{Vehicles}
 use Rattle.activity.specs.Activity.{ActivitiesInRange, residue_one, residues, NoneOf, AllDifferent, RunInRange}
 use Rattle.figures.specs.Year.{Year}
 use Rattle.figures.specs.Reckoning.{after_figures, after_year}

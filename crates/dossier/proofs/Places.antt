@@ -14,7 +14,7 @@ use Rattle.dossier.specs.Marks.{mark_yr, mark_pl, mark_en}
 use Rattle.dossier.specs.Plan.{Plan, PlanLent}
 use Rattle.dossier.specs.Records.{Opening, OpeningInRange, opening_bytes, Due, first_due, YearInRange, year_bytes, YearsInRange}
 use Rattle.dossier.specs.Claims.{DueInRange}
-use Rattle.dossier.specs.Reader.{refused, accepted, Reader, ◌>>=◌, ◌>>◌, give, is, end_of_piece}
+use Rattle.dossier.specs.Reader.{refused, accepted, Reader, ◌>>=◌, ◌>>◌, give, is, end_of_piece, followed}
 use Rattle.dossier.specs.JudgingRecords.{activity_mark}
 use Rattle.dossier.specs.Judging.{opening, year, years, dossier, opening_piece, year_piece}
 use Rattle.wire.proofs.BytesLaws.{length-bytes, take-bytes}
@@ -34,7 +34,7 @@ module _ (plan : Option Plan) (lent : PlanLent plan) (o : Opening) (p : OpeningI
   then_due = due_after l (first_due plan o)
 
   dossier_continues : (k : ℕ) → o.head.years ≡ length l + k → (t : List ℕ) → Beyond t → (n : ℕ) → years k then_due l t ≡ refused n → dossier plan (so_far t) ≡ refused n
-  unfolding dossier ◌>>=◌
+  unfolding dossier followed
   dossier_continues k e t v n h =
       rw (opening_exact.reads o (joined (map year_bytes l) ++ t) tt p, years_continue l k o.head.years e (first_due plan o) (room-opening plan lent o p _ (omega arith)) [] t q v, h)
 
@@ -59,7 +59,7 @@ module _ (plan : Option Plan) (lent : PlanLent plan) (o : Opening) (p : OpeningI
       other w f e = f (sym (take-bytes 2 m t small) ∙ e)
 
       then_two : (k : ℕ) (due : Due) (before : List Year) → years k due before (bytes 2 m ++ t) ≡ refused 2
-      then_two zero due before = unfold years ◌>>◌ in rw (end_other (bytes 2 m ++ t) long (other mark_yr f) (other mark_en g))
+      then_two zero due before = unfold years followed in rw (end_other (bytes 2 m ++ t) long (other mark_yr f) (other mark_en g))
       then_two (suc k) due before = unfold years in sym (bind_no (year due) _ (bytes 2 m ++ t) 2 (sym (year_other due (bytes 2 m ++ t) long (other mark_yr f))))
 
       go : (k : ℕ) → o.head.years ≡ length l + k → 0 < k → dossier plan (so_far (year_bytes y ++ (bytes 2 m ++ t))) ≡ refused 2
@@ -85,18 +85,18 @@ module _ (plan : Option Plan) (lent : PlanLent plan) (o : Opening) (p : OpeningI
   pub late_year : length l ≡ o.head.years → (t : List ℕ) → dossier plan (so_far (bytes 2 mark_yr ++ t)) ≡ refused (cond (ltb (length t) 4) 1 6)
   late_year h t =
       dossier_continues 0 (omega arith) _ (year_beyond t) _
-      (unfold years ◌>>◌ in rw (end-none_left t))
+      (unfold years followed in rw (end-none_left t))
 
   -- "bytes after EN" are 2
   pub beyond_end : length l ≡ o.head.years → (b : ℕ) (t : List ℕ) → dossier plan (so_far (bytes 2 mark_en ++ (b ∷ t))) ≡ refused 2
   beyond_end h b t =
       dossier_continues 0 (omega arith) _ (end_beyond (b ∷ t)) 2
-      (unfold years ◌>>◌ in
+      (unfold years followed in
       rw (end_followed (bytes 2 mark_en ++ (b ∷ t)) (simp (length-append, length-bytes) (omega arith)) (take-bytes 2 mark_en (b ∷ t) (lit< tt)) (simp (length-append, length-bytes) (omega arith))))
 
 -- ---- after a piece: "a lone byte left over there is 1, any mark beyond the piece 2"
 piece_fault : {A : Type 0} (r : Reader A) (s : List ℕ) {a : A} {t : List ℕ} (n : ℕ) → r s ≡ accepted a t → end_of_piece t ≡ refused n → (r >>= λ a. end_of_piece >> give a) s ≡ refused n
-unfolding ◌>>=◌ ◌>>◌
+unfolding followed
 piece_fault r s n e f = rw (e, f)
 
 module _ (o : Opening) (p : OpeningInRange o) where

@@ -10,14 +10,14 @@ use native.Mathlib.Omega.{arith}
 use borrow.Author.Tests.{lt-ltb, ltb-false}
 use lib.Dec.{ltb, eqb, lit<}
 use lib.ListN.{length, length-append}
-use Rattle.activity.specs.declared.Activity.{Activity}
+use Rattle.activity.specs.Records.{Activity}
 use Rattle.activity.specs.Activity.{RunInRange}
 use Rattle.wire.specs.Bytes.{Bytes, bytes, joined}
 use Rattle.dossier.specs.Causes.{plan_not_of_form, record_repeated, ◌∈◌}
 use Rattle.dossier.specs.Marks.{mark_py, mark_en}
 use Rattle.dossier.specs.Plan.{PlanYear, PlanYearInRange, plan_year_bytes, PlanYearsInRange, Plan, PlanInRange, plan_bytes, PlanLent, records_in, records_for}
 use Rattle.dossier.specs.Records.{RecordsInRange, bytes_if_any}
-use Rattle.dossier.specs.Reader.{Judged, refused, accepted, after, ◌>>=◌, ◌>>◌, give, mark, stands, is, upon, if_any, nothing}
+use Rattle.dossier.specs.Reader.{Judged, refused, accepted, after, ◌>>◌, give, mark, stands, is, upon, if_any, nothing, followed}
 use Rattle.dossier.specs.JudgingRecords.{activity_mark}
 use Rattle.dossier.specs.JudgingPlan.{plan_year, plan_end, plan_years, plan_fault, renumbered, plan, lent_plan}
 use Rattle.wire.proofs.BytesLaws.{bytes_after, length-bytes}
@@ -49,11 +49,11 @@ plan_year_begins kind p t = rw append_assoc (stands-bytes kind mark_py _ (lit< t
 
 -- ---- the years and EN
 plan_end-reads : (years : List PlanYear) → plan_end years (bytes 2 mark_en ++ []) ≡ accepted years []
-unfolding plan_end nothing give ◌>>◌
+unfolding plan_end nothing give followed
 plan_end-reads years = rw (mark-yes mark_en [] (lit< tt))
 
 plan_end-only : (years : List PlanYear) (s : List ℕ) → Bytes s → (all : Plan) (t : List ℕ) → plan_end years s ≡ accepted all t → (all ≡ years) × (s ≡ bytes 2 mark_en) × (t ≡ [])
-unfolding plan_end give ◌>>◌
+unfolding plan_end give followed
 plan_end-only years s bs all t q =
     let f = step (mark mark_en s) (λ _. nothing >> give years) q in
     let g = step (nothing f.1) (λ _. give years) f.3 in
@@ -116,7 +116,7 @@ one_more_lem k least before s p u all t i e r = record {
     joins = unfold plan_years_bytes joined in simp append_assoc
 
 plan_years-only : (k least : ℕ) (before : List PlanYear) (s : List ℕ) → Bytes s → (all : Plan) (t : List ℕ) → plan_years k least before s ≡ accepted all t → ReadPlan k least before s all t
-unfolding plan_years upon ◌>>=◌
+unfolding plan_years upon followed
 plan_years-only zero least before s bs all t q = ended 0 least before s bs all t q
 plan_years-only (suc k) least before s bs all t q = go (stands (is mark_py) s) q (λ p u b. plan_years-only k (p.year + 1) (before ++ (p ∷ [])) u b all t)
   where
@@ -181,7 +181,7 @@ lent_then (some p) r = ((r, refl), plan_bytes_there p [])
 
 -- every refusal of it is 12 or 14
 pub lent_plan-refused : (s : List ℕ) (n : ℕ) → lent_plan s ≡ refused n → n ∈ plan_causes
-unfolding lent_plan if_any plan give ◌>>=◌
+unfolding lent_plan if_any plan give followed
 lent_plan-refused s n e = go (some_bytes s) (plan_years 20 0 [] s) e
   where
     fault : (b : Bool) → ◌≡◌ {A = Judged (Option Plan)} (refused (cond b record_repeated plan_not_of_form)) (refused n) → n ∈ plan_causes

@@ -9,7 +9,7 @@ use mathlib.Core.List.{List, ◌∷◌, ◌++◌, map, append_assoc}
 use native.Mathlib.Omega.{arith}
 use lib.Dec.{lit<}
 use lib.ListN.{length}
-use Rattle.activity.specs.declared.Activity.{Activity}
+use Rattle.activity.specs.Records.{Activity}
 use Rattle.figures.specs.Year.{Year}
 use Rattle.figures.specs.Figures.{small_activity}
 use Rattle.wire.specs.Bytes.{bytes, joined}
@@ -17,7 +17,7 @@ use Rattle.dossier.specs.Marks.{mark_yr, mark_pl, mark_en}
 use Rattle.dossier.specs.Plan.{Plan, PlanLent, records_for}
 use Rattle.dossier.specs.Records.{Opening, OpeningInRange, opening_bytes, Due, first_due, figures_for, YearInRange, year_bytes, YearsInRange}
 use Rattle.dossier.specs.Claims.{DueInRange}
-use Rattle.dossier.specs.Reader.{refused, ◌>>=◌, ◌>>◌, holds, is}
+use Rattle.dossier.specs.Reader.{refused, holds, is, followed}
 use Rattle.dossier.specs.JudgingRecords.{activity_mark}
 use Rattle.dossier.specs.Judging.{year, dossier}
 use Rattle.dossier.proofs.ReaderLaws.{stands-bytes}
@@ -41,7 +41,7 @@ plan_lacks due h y p e t = records-refused due h y p (bytes 2 mark_pl ++ t) 13 (
 -- "or the inequality fails": whatever follows PL
 pub not-small : (due : Due) → DueInRange due → (y : Year) → LeftInRange due y → y.planned ≡ true → small_activity (figures_for due y) ≡ false → (t : List ℕ)
     → year due (year_bytes y ++ t) ≡ refused 13
-unfolding year holds ◌>>=◌ ◌>>◌
+unfolding year holds followed
 not-small due h y p planned large t =
     let follow = any_follows y.planned y.activities t planned in
     rw ((left_exact due h).reads y t tt (p, follow), large_refused due y planned large)

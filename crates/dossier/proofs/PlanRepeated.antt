@@ -10,14 +10,14 @@ use native.Mathlib.Omega.{arith}
 use borrow.Author.Tests.{eqb-true}
 use lib.Dec.{lit<, ltb, eqb}
 use lib.ListN.{length, take, drop, length-append}
-use Rattle.activity.specs.declared.Activity.{Activity}
+use Rattle.activity.specs.Records.{Activity}
 use Rattle.activity.specs.Activity.{Within}
 use Rattle.wire.specs.Bytes.{Bytes, number, bytes, joined}
 use Rattle.dossier.specs.Causes.{record_repeated, plan_not_of_form}
 use Rattle.dossier.specs.Marks.{mark_py}
 use Rattle.dossier.specs.Plan.{PlanYear, PlanYearInRange, plan_year_bytes, PlanYearsInRange, Plan}
 use Rattle.dossier.specs.Repeated.{YearsRepeat, PlanRepeats}
-use Rattle.dossier.specs.Reader.{Judged, refused, accepted, Reader, after, ◌>>=◌, ◌>>◌, give, stands, is, upon, if_any, begin, field, outside, within}
+use Rattle.dossier.specs.Reader.{Judged, refused, accepted, Reader, after, ◌>>=◌, ◌>>◌, give, stands, is, upon, if_any, begin, field, outside, within, followed}
 use Rattle.dossier.specs.JudgingRecords.{activity_mark}
 use Rattle.dossier.specs.Judging.{activities}
 use Rattle.dossier.specs.JudgingPlan.{plan_year, plan_end, plan_years, plan_fault, renumbered, plan, lent_plan}
@@ -38,7 +38,7 @@ abbrev yearly : ℕ → List ℕ → List ℕ
 yearly year records = bytes 2 mark_py ++ (bytes 2 year ++ records)
 
 year-repeats : (least year : ℕ) → Within least year 65535 → (records : List ℕ) → activities [] records ≡ refused 14 → plan_year least (yearly year records) ≡ refused 14
-unfolding plan_year field ◌>>=◌ ◌>>◌
+unfolding plan_year field followed
 year-repeats least year w records e =
     let long : 2 ≤ length (bytes 2 year ++ records) = simp (length-append, length-bytes) (omega arith) in
     let small : year < 65536 = omega (arith, w.most) in
@@ -64,7 +64,7 @@ years_repeat (suc k) least before (p ∷ l) year n r records e =
 -- ---- and back
 -- the last of them
 last-year : (k least : ℕ) (s : List ℕ) → Bytes s → plan_year least s ≡ refused 14 → YearsRepeat (suc k) least s
-unfolding plan_year field within give ◌>>=◌ ◌>>◌
+unfolding plan_year field within give followed
 last-year k least s bs q = go (begin mark_py 2 s) refl q
   where
     with_records : ℕ → Reader PlanYear
@@ -114,7 +114,7 @@ ends_otherwise : {G : Type 0} (before : List PlanYear) (s : List ℕ) → plan_e
 ends_otherwise before s q = absurd (not_listed 14 record_causes tt (plan_end-causes before s 14 q))
 
 repeating_years : (k least : ℕ) (before : List PlanYear) (s : List ℕ) → Bytes s → plan_years k least before s ≡ refused 14 → YearsRepeat k least s
-unfolding plan_years upon ◌>>=◌
+unfolding plan_years upon followed
 repeating_years zero least before s bs q = ends_otherwise before s q
 repeating_years (suc k) least before s bs q = go (stands (is mark_py) s) q (λ p u b. repeating_years k (p.year + 1) (before ++ (p ∷ [])) u b)
   where
@@ -142,7 +142,7 @@ plan-repeats s r =
     lent-refused s some_bytes 14 (rw stopped)
 
 repeats-plan : (s : List ℕ) → Bytes s → lent_plan s ≡ refused 14 → PlanRepeats s
-unfolding lent_plan if_any plan give ◌>>=◌
+unfolding lent_plan if_any plan give followed
 repeats-plan s bs q = go (ltb 0 (length s)) (plan_years 20 0 [] s) refl q
   where
     fault : (n : ℕ) (b : Bool) → (b ≡ true → n ≡ record_repeated) → ◌≡◌ {A = Judged (Option Plan)} (refused (cond b record_repeated plan_not_of_form)) (refused 14) → n ≡ 14

@@ -13,7 +13,7 @@ use Rattle.wire.specs.Bytes.{number}
 use Rattle.dossier.specs.Causes.{plan_not_of_form}
 use Rattle.dossier.specs.Marks.{mark_py, mark_en}
 use Rattle.dossier.specs.Plan.{PlanYear, Plan}
-use Rattle.dossier.specs.Reader.{refused, accepted, after, ◌>>=◌, ◌>>◌, give, mark, stands, is, upon, if_any, nothing}
+use Rattle.dossier.specs.Reader.{refused, accepted, after, ◌>>◌, give, mark, stands, is, upon, if_any, nothing, followed}
 use Rattle.dossier.specs.JudgingPlan.{plan_year, plan_end, plan_years, plan_fault, renumbered, plan, lent_plan}
 use Rattle.dossier.proofs.ReaderLaws.{stood}
 
@@ -21,11 +21,11 @@ use Rattle.dossier.proofs.ReaderLaws.{stood}
 module _ (least : ℕ) (before : List PlanYear) (s : List ℕ) where
   module _ (more less : ℕ) (room : more ≡ suc less) (here : stands (is mark_py) s ≡ true) where
     pub year-read : (p : PlanYear) (u : List ℕ) → plan_year least s ≡ accepted p u → plan_years more least before s ≡ plan_years less (p.year + 1) (before ++ (p ∷ [])) u
-    unfolding plan_years upon ◌>>=◌
+    unfolding plan_years upon followed
     year-read p u e = rw (room, here, e)
 
     pub year-refused : (n : ℕ) → plan_year least s ≡ refused n → plan_years more least before s ≡ refused n
-    unfolding plan_years upon ◌>>=◌
+    unfolding plan_years upon followed
     year-refused n e = rw (room, here, e)
 
   pub years-over : (more : ℕ) → stands (is mark_py) s ≡ false → plan_years more least before s ≡ plan_end before s
@@ -41,7 +41,7 @@ module _ (least : ℕ) (before : List PlanYear) (s : List ℕ) where
 module _ (years : Plan) (s : List ℕ) where
   -- where not two bytes are left
   pub end-unfit : (length s ≡ 2 → ⊥) → renumbered plan_fault (plan_end years s) ≡ refused plan_not_of_form
-  unfolding plan_end mark nothing ◌>>◌
+  unfolding plan_end mark nothing followed
   end-unfit f = go (ltb (length s) 2) (eqb (number (take 2 s)) mark_en) (ltb-false _ _)
     where
       go : (short there : Bool) → (short ≡ false → 2 ≤ length s)
@@ -52,7 +52,7 @@ module _ (years : Plan) (s : List ℕ) where
 
   -- where two are
   pub end_two : length s ≡ 2 → renumbered plan_fault (plan_end years s) ≡ cond (eqb (number (take 2 s)) mark_en) (accepted years []) (refused plan_not_of_form)
-  unfolding plan_end mark nothing give ◌>>◌
+  unfolding plan_end mark nothing give followed
   end_two h = rw (le-ltb (length s) 2 (omega arith), drop_of_length-le s {i = 2} (omega arith)) (go (eqb (number (take 2 s)) mark_en))
     where
       go : (there : Bool)
@@ -63,7 +63,7 @@ module _ (years : Plan) (s : List ℕ) where
 
   -- PY is no end
   pub end_mark : stands (is mark_py) s ≡ true → renumbered plan_fault (plan_end years s) ≡ refused plan_not_of_form
-  unfolding plan_end mark ◌>>◌
+  unfolding plan_end mark followed
   end_mark h =
       let (long, e) = stood mark_py s h in
       let other : number (take 2 s) ≡ mark_en → ⊥ = λ d. let z : mark_py ≡ mark_en = sym e ∙ d in omega arith in
@@ -77,9 +77,9 @@ module _ (s : List ℕ) where
 
   module _ (some_bytes : 0 < length s) where
     pub lent-refused : (n : ℕ) → renumbered plan_fault (plan_years 20 0 [] s) ≡ refused n → lent_plan s ≡ refused n
-    unfolding lent_plan if_any plan ◌>>=◌
+    unfolding lent_plan if_any plan followed
     lent-refused n e = rw (lt-ltb _ _ some_bytes, e)
 
     pub lent_some : (p : Plan) (u : List ℕ) → renumbered plan_fault (plan_years 20 0 [] s) ≡ accepted p u → lent_plan s ≡ accepted (some p) u
-    unfolding lent_plan if_any plan give ◌>>=◌
+    unfolding lent_plan if_any plan give followed
     lent_some p u e = rw (lt-ltb _ _ some_bytes, e)

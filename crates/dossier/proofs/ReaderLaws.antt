@@ -10,7 +10,7 @@ use lib.Dec.{ltb, eqb}
 use lib.ListN.{length, take, drop, length-append}
 use Rattle.activity.specs.Activity.{Within}
 use Rattle.wire.specs.Bytes.{Bytes, number, bytes}
-use Rattle.dossier.specs.Reader.{Judged, refused, accepted, Reader, after, ◌>>=◌, ◌>>◌, give, mark, begin, stands, is, present, outside, within, equal, holds, nothing}
+use Rattle.dossier.specs.Reader.{Judged, refused, accepted, Reader, after, ◌>>=◌, ◌>>◌, give, mark, begin, stands, is, present, outside, within, equal, holds, nothing, followed}
 use Rattle.wire.proofs.BytesLaws.{length-bytes, split, take-bytes, drop-bytes}
 
 -- no refusal is an acceptance, and no acceptance a refusal
@@ -28,11 +28,11 @@ step (accepted a u) f e = (a, u, refl, e)
 
 -- one reader after another, from what the first one gives: its refusal is the whole's
 pub bind_no : {A B : Type 0} (r : Reader A) (k : A → Reader B) (u : List ℕ) (n : ℕ) → refused n ≡ r u → refused n ≡ (r >>= k) u
-unfolding ◌>>=◌
+unfolding followed
 bind_no r k u n e = rw (← e)
 
 pub bind-yes : {A B : Type 0} (r : Reader A) (k : A → Reader B) (u : List ℕ) (a : A) (v : List ℕ) → accepted a v ≡ r u → k a v ≡ (r >>= k) u
-unfolding ◌>>=◌
+unfolding followed
 bind-yes r k u a v e = rw (← e)
 
 pub bind-bind : {A B C : Type 0} (j : Judged A) (k : A → Reader B) (g : B → Reader C) → after (after j k) g ≡ after j (λ a u. after (k a u) g)
@@ -95,11 +95,11 @@ unfolding present
 present-only n s e = let p = cond_refused (ltb (length s) n) _ _ e in (ltb-false _ _ p.0, (was p.1).1)
 
 pub begin-yes : (m n : ℕ) (t : List ℕ) → m < 65536 → n ≤ length t → begin m n (bytes 2 m ++ t) ≡ accepted tt t
-unfolding begin ◌>>◌
+unfolding begin followed
 begin-yes m n t h k = rw (mark-yes m t h) (present-yes n t k)
 
 pub begin-only : (m n : ℕ) (s : List ℕ) {x : Unit {0}} {u : List ℕ} → Bytes s → begin m n s ≡ accepted x u → (s ≡ bytes 2 m ++ u) × (n ≤ length u)
-unfolding begin ◌>>◌
+unfolding begin followed
 begin-only m n s {u = u} b e =
     let f = step (mark m s) (λ _. present n) e in
     let g = present-only n f.1 f.3 in
@@ -159,7 +159,7 @@ equal-only n x y s e = let p = cond_accepted (eqb x y) _ _ e in (eqb-true _ _ p.
 
 -- a test, and a reader after it
 pub held-only : {B : Type 0} (n : ℕ) (b : Bool) (q : Reader B) (s : List ℕ) {x : B} {t : List ℕ} → (holds n b >> q) s ≡ accepted x t → (b ≡ true) × (q s ≡ accepted x t)
-unfolding holds ◌>>◌
+unfolding holds followed
 held-only n true q s e = (refl, e)
 held-only n false q s e = no _ _ _ e
 

@@ -14,28 +14,28 @@ use Rattle.dossier.specs.Marks.{mark_yr, mark_en}
 use Rattle.figures.specs.Year.{Year}
 use Rattle.dossier.specs.Plan.{records_for}
 use Rattle.dossier.specs.Records.{Due}
-use Rattle.dossier.specs.Reader.{refused, accepted, Reader, after, ◌>>◌, refuse, mark, is, upon, present, begin, nothing, end_of_piece}
+use Rattle.dossier.specs.Reader.{refused, accepted, Reader, after, refuse, mark, is, upon, present, begin, nothing, end_of_piece, followed}
 use Rattle.dossier.specs.Judging.{none_left, year_records, year_left, year, end}
 use Rattle.dossier.proofs.ReaderLaws.{no, was, bind_no, mark-yes, stands_short, stands_here}
 
 -- "mark, .., bytes missing": 1 where the mark is cut, 2 where it is another, however few bytes follow, 1 where the record is cut
 module _ (m n : ℕ) (s : List ℕ) where
   pub begin_short : length s < 2 → begin m n s ≡ refused 1
-  unfolding begin mark ◌>>◌
+  unfolding begin mark followed
   begin_short h = simp (lt-ltb _ _ h)
 
   module _ (long : 2 ≤ length s) where
     pub begin_other : (number (take 2 s) ≡ m → ⊥) → begin m n s ≡ refused 2
-    unfolding begin mark ◌>>◌
+    unfolding begin mark followed
     begin_other f = simp (le-ltb _ _ long, ne_eqb _ _ f)
 
     module _ (e : number (take 2 s) ≡ m) where
       pub begin_cut : length (drop 2 s) < n → begin m n s ≡ refused 1
-      unfolding begin mark present ◌>>◌
+      unfolding begin mark present followed
       begin_cut l = simp (le-ltb _ _ long, eq-eqb _ _ e, lt-ltb _ _ l)
 
       pub begin-whole : n ≤ length (drop 2 s) → begin m n s ≡ accepted tt (drop 2 s)
-      unfolding begin mark present ◌>>◌
+      unfolding begin mark present followed
       begin-whole l = simp (le-ltb _ _ long, eq-eqb _ _ e, le-ltb _ _ l)
 
 -- "YR stays due there and gives 6": 1 where the record is cut, 6 where it is complete, whatever follows it
@@ -45,7 +45,7 @@ cut_or n true t = refl
 cut_or n false t = refl
 
 pub none_left_lem : {A : Type 0} (t : List ℕ) → none_left {A = A} (bytes 2 mark_yr ++ t) ≡ refused (cond (ltb (length t) 4) 1 6)
-unfolding none_left begin present ◌>>◌
+unfolding none_left begin present followed
 none_left_lem t = rw (mark-yes mark_yr t (lit< tt)) (cut_or _ (ltb (length t) 4) t)
 
 -- a refusal of the records of the year that is due is the year's
@@ -62,7 +62,7 @@ year-none_left due t h = left-refused due _ _ (rw (eq-eqb _ _ h) (none_left_lem 
 
 -- where a year is due: 1 where the bytes end before or inside its mark, 2 for any other mark, so for EN "before n years"
 pub year_short : (due : Due) (s : List ℕ) → length s < 2 → year due s ≡ refused 1
-unfolding year_left year_records none_left ◌>>◌
+unfolding year_left year_records none_left followed
 year_short due s h = left-refused due s 1 (go (eqb due.state.left 0))
   where
     go : (b : Bool) → cond b none_left (year_records (records_for due.plan due.state.year) due.state.year due.terms.start.0 due.terms.beltstart.0) s ≡ refused 1
@@ -70,7 +70,7 @@ year_short due s h = left-refused due s 1 (go (eqb due.state.left 0))
     go false = rw (begin_short mark_yr 4 s h)
 
 pub year_other : (due : Due) (s : List ℕ) → 2 ≤ length s → (number (take 2 s) ≡ mark_yr → ⊥) → year due s ≡ refused 2
-unfolding year_left year_records none_left ◌>>◌
+unfolding year_left year_records none_left followed
 year_other due s h f = left-refused due s 2 (go (eqb due.state.left 0))
   where
     go : (b : Bool) → cond b none_left (year_records (records_for due.plan due.state.year) due.state.year due.terms.start.0 due.terms.beltstart.0) s ≡ refused 2
@@ -80,7 +80,7 @@ year_other due s h f = left-refused due s 2 (go (eqb due.state.left 0))
 -- ---- the ends: where EN is due, 1 where the bytes end before or inside its mark, YR once more, 2 for any other mark, 2 for any byte after EN
 module _ (s : List ℕ) where
   pub end_short : length s < 2 → end s ≡ refused 1
-  unfolding end upon mark ◌>>◌
+  unfolding end upon mark followed
   end_short h = rw (stands_short (is mark_yr) s h) (simp (lt-ltb _ _ h))
 
   module _ (long : 2 ≤ length s) where
@@ -89,12 +89,12 @@ module _ (s : List ℕ) where
     end-again e = rw (stands_here (is mark_yr) s long, eq-eqb _ _ e)
 
     pub end_other : (number (take 2 s) ≡ mark_yr → ⊥) → (number (take 2 s) ≡ mark_en → ⊥) → end s ≡ refused 2
-    unfolding end upon mark ◌>>◌
+    unfolding end upon mark followed
     end_other f g = rw (stands_here (is mark_yr) s long, ne_eqb _ _ f) (simp (le-ltb _ _ long, ne_eqb _ _ g))
 
     module _ (e : number (take 2 s) ≡ mark_en) where
       end_is : end s ≡ nothing (drop 2 s)
-      unfolding end upon mark ◌>>◌
+      unfolding end upon mark followed
       end_is =
           let f : number (take 2 s) ≡ mark_yr → ⊥ = λ d. let z : mark_en ≡ mark_yr = sym e ∙ d in omega arith in
           rw (stands_here (is mark_yr) s long, ne_eqb _ _ f) (simp (le-ltb _ _ long, eq-eqb _ _ e))

@@ -8,7 +8,7 @@ use mathlib.Core.Logic.{◌↔◌}
 use mathlib.Core.List.{List, [], ◌∷◌, ◌++◌, append_assoc, append-nil}
 use native.Mathlib.Omega.{arith}
 use lib.ListN.{length}
-use Rattle.activity.specs.declared.Activity.{Activity}
+use Rattle.activity.specs.Records.{Activity}
 use Rattle.activity.specs.Activity.{ActivityInRange, ActivitiesInRange, residue_one, residues, NoneOf, AllDifferent}
 use Rattle.wire.specs.Bytes.{Bytes, joined}
 use Rattle.figures.specs.Year.{Year}
@@ -17,7 +17,7 @@ use Rattle.dossier.specs.Layouts.{activity_bytes, fresh}
 use Rattle.dossier.specs.Records.{Due}
 use Rattle.dossier.specs.Claims.{DueInRange}
 use Rattle.dossier.specs.Repeated.{Repeats}
-use Rattle.dossier.specs.Reader.{Judged, refused, accepted, Reader, after, ◌>>=◌, ◌>>◌, give, refuse, stands, is, upon, holds}
+use Rattle.dossier.specs.Reader.{Judged, refused, accepted, Reader, after, ◌>>◌, give, refuse, stands, is, upon, holds, followed}
 use Rattle.dossier.specs.JudgingRecords.{activity_mark}
 use Rattle.dossier.specs.Judging.{another, run, activities, year}
 use Rattle.wire.proofs.BytesLaws.{bytes_after}
@@ -97,7 +97,7 @@ one_more_lem k before s a u p c e f r = record {
 }
 
 run-repeats : (k : ℕ) (before : List Activity) (s : List ℕ) → Bytes s → run k before s ≡ refused 14 → RepeatsAfter k before s
-unfolding run upon give refuse ◌>>=◌
+unfolding run upon give refuse followed
 run-repeats zero before s bs q = go (stands activity_mark s) q
   where
     go : (h : Bool) → cond h (refused 9) (accepted before s) ≡ refused 14 → RepeatsAfter 0 before s
@@ -122,7 +122,7 @@ run-repeats (suc k) before s bs q = go (stands activity_mark s) q (λ a u b. run
 
     judged : (j : Judged Activity) → another before s ≡ j → after j next ≡ refused 14 → Later → RepeatsAfter (suc k) before s
     judged (refused n) e q ih = let z : n ≡ 14 = cc in absurd (not_listed 14 record_causes tt (another-causes before s 14 (e ∙ ap (λ (m : ℕ). refused m) z)))
-    judged (accepted a u) e q ih = unfold holds ◌>>◌ in read a u e ih (fresh before a) refl q
+    judged (accepted a u) e q ih = unfold holds followed in read a u e ih (fresh before a) refl q
 
     go : (h : Bool) → cond h (after (another before s) next) (accepted before s) ≡ refused 14 → Later → RepeatsAfter (suc k) before s
     go true q ih = judged (another before s) refl q ih

@@ -9,13 +9,13 @@ use native.Mathlib.Omega.{arith}
 use borrow.Author.Tests.{le-ltb, ltb-true, ltb-false, eqb-true, eq-eqb, ne_eqb}
 use lib.Dec.{ltb, eqb}
 use lib.ListN.{length, take, drop}
-use Rattle.activity.specs.declared.Activity.{Activity}
-use Rattle.activity.specs.declared.Activity.TheVariants.{Fuel, Vehicles, Nitrogen, Lime, Residue}
+use Rattle.activity.specs.Records.{Activity}
+use Rattle.activity.specs.Records.Activity.{Fuel, Vehicles, Nitrogen, Lime, Residue}
 use Rattle.activity.specs.Activity.{ActivityInRange, residue_one, residues}
 use Rattle.wire.specs.Bytes.{number}
 use Rattle.dossier.specs.Marks.{mark_cr}
 use Rattle.dossier.specs.Layouts.{Layout, fuel, vehicles, nitrogen, lime, layouts, layout_of, activity_bytes}
-use Rattle.dossier.specs.Reader.{refused, accepted, Reader, after, ◌>>=◌, ◌>>◌, refuse, stands, is, upon, present, field}
+use Rattle.dossier.specs.Reader.{refused, accepted, Reader, after, ◌>>=◌, ◌>>◌, refuse, stands, is, upon, present, field, followed}
 use Rattle.dossier.specs.JudgingRecords.{mark_of, row_under, activity_mark, activity_under, activity}
 use Rattle.dossier.specs.Judging.{third_residue, another}
 use Rattle.dossier.proofs.ReaderLaws.{no, stands_here}
@@ -48,7 +48,7 @@ ordinary-under m u true e f = absurd (false_true f refl)
 ordinary-under m u false e f = rw e
 
 ordinary-read : (s : List ℕ) → stands (λ m. cond (is mark_cr m) true false) s ≡ false → activity s ≡ ordinary_activity s
-unfolding activity ordinary_activity present field ◌>>=◌ ◌>>◌
+unfolding activity ordinary_activity present field followed
 ordinary-read s e = go (ltb (length s) 2) (ltb-false _ _)
   where
     go : (b : Bool) → (b ≡ false → 2 ≤ length s)

@@ -9,11 +9,11 @@ use native.Mathlib.Omega.{arith}
 use borrow.Author.Tests.{lt-ltb, le-ltb, ltb-true, ltb-false}
 use lib.Dec.{ltb}
 use lib.ListN.{length, length-append}
-use Rattle.activity.specs.declared.Activity.{Activity}
+use Rattle.activity.specs.Records.{Activity}
 use Rattle.activity.specs.Activity.{ActivityInRange, ActivitiesInRange, residues, NoneOf, AllDifferent, RunInRange}
 use Rattle.wire.specs.Bytes.{Bytes, joined}
 use Rattle.dossier.specs.Layouts.{activity_bytes, fresh}
-use Rattle.dossier.specs.Reader.{refused, accepted, Reader, after, ◌>>=◌, ◌>>◌, give, refuse, stands, upon, holds}
+use Rattle.dossier.specs.Reader.{refused, accepted, Reader, after, ◌>>=◌, ◌>>◌, give, refuse, stands, upon, holds, followed}
 use Rattle.dossier.specs.JudgingRecords.{activity_mark}
 use Rattle.dossier.specs.Judging.{third_residue, another, run, activities}
 use Rattle.wire.proofs.BytesLaws.{bytes_after}
@@ -55,7 +55,7 @@ activities_are before s = go (ltb (length before) 60) (ltb-true _ _) (ltb-false 
 -- a record that is read: the run goes on after it, or it is one of those before and 14
 module _ (before : List Activity) (s : List ℕ) {a : Activity} {u : List ℕ} (h : length before < 60) (m : stands activity_mark s ≡ true) (e : another before s ≡ accepted a u) where
   pub activities_one : activities before s ≡ cond (fresh before a) (activities (before ++ (a ∷ [])) u) (refused 14)
-  unfolding upon holds ◌>>=◌ ◌>>◌
+  unfolding upon holds followed
   activities_one = activities_are before s ∙ rw (m, lt-ltb _ _ h, e) (go (fresh before a))
     where
       go : (b : Bool) → after (cond b (accepted (tt {0}) u) (refused 14)) (λ _. activities (before ++ (a ∷ []))) ≡ cond b (activities (before ++ (a ∷ [])) u) (refused 14)
@@ -71,7 +71,7 @@ TooMany before s = ((60 ≤ length before) × (stands activity_mark s ≡ true))
 
 -- its mark alone gives 9, whatever follows it
 pub too_many : (before : List Activity) (s : List ℕ) → TooMany before s → activities before s ≡ refused 9
-unfolding upon refuse ◌>>=◌
+unfolding upon refuse followed
 too_many before s =
     ⊎_elim (λ h. activities_are before s ∙ rw (h.1, le-ltb _ _ h.0))
     (λ e. activities_are before s ∙ rw (third_activity before s e) (go (ltb (length before) 60) (another_third before s e)))
@@ -145,7 +145,7 @@ one_more_lem k before s a u all t p c f e r = record {
 }
 
 run_only : (k : ℕ) (before : List Activity) (s : List ℕ) → Bytes s → (all : List Activity) (t : List ℕ) → run k before s ≡ accepted all t → Ran k before s all t
-unfolding run upon give refuse ◌>>=◌
+unfolding run upon give refuse followed
 run_only zero before s bs all t q = go (stands activity_mark s) refl q
   where
     go : (h : Bool) → stands activity_mark s ≡ h → cond h (refused 9) (accepted before s) ≡ accepted all t → Ran 0 before s all t

@@ -8,8 +8,8 @@ use native.Mathlib.Omega.{arith}
 use borrow.Author.Tests.{eqb-true, eq-eqb}
 use lib.Dec.{eqb}
 use lib.ListN.{get_or}
-use Rattle.activity.specs.declared.Activity.{Activity}
-use Rattle.activity.specs.declared.Activity.TheVariants.{Fuel, Vehicles, Nitrogen, Lime, Residue}
+use Rattle.activity.specs.Records.{Activity}
+use Rattle.activity.specs.Records.Activity.{Fuel, Vehicles, Nitrogen, Lime, Residue}
 use Rattle.activity.specs.Activity.{NoneOf, AllDifferent}
 use Rattle.dossier.specs.Marks.{mark_fu, mark_ve, mark_ni, mark_li}
 use Rattle.dossier.specs.Layouts.{residue_of, layout_of, numbers_of, alike, same, fresh}

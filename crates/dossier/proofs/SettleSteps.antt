@@ -10,7 +10,7 @@ use lib.Dec.{eqb}
 use lib.ListN.{length, drop, length-append, length-drop}
 use lib.Seq.{take-append-le, drop-append-le}
 use Rattle.wire.specs.Bytes.{numbers}
-use Rattle.dossier.specs.Reader.{Judged, refused, accepted, Reader, after, ◌>>=◌, ◌>>◌, give, refuse, mark, stands, upon, present, field, fields, nothing}
+use Rattle.dossier.specs.Reader.{Judged, refused, accepted, Reader, after, ◌>>=◌, ◌>>◌, give, refuse, mark, stands, upon, present, field, fields, nothing, followed}
 use Rattle.dossier.proofs.ReaderLaws.{present-yes, stands_here}
 use Rattle.dossier.proofs.Walk.{Closed}
 
@@ -32,7 +32,7 @@ pub record Settles {A : Type 0} (m : ℕ) (r : Reader A) : Type 0 where
 -- ---- readers made of others
 pub bind-alike : {A B : Type 0} {m : ℕ} {r : Reader A} (k : A → Reader B) → Settles m r → (n : ℕ) (s t : List ℕ) → m + n ≤ length s
     → ((a : A) (u : List ℕ) → r s ≡ accepted a u → n ≤ length u → k a (u ++ t) ≡ and_left t (k a u)) → (r >>= k) (s ++ t) ≡ and_left t ((r >>= k) s)
-unfolding ◌>>=◌
+unfolding followed
 bind-alike {A} {B} {m} {r} k x n s t h f = rw (x.alike s t (omega arith)) (go (r s) refl (x.leaves s n h))
   where
     go : (j : Judged A) → r s ≡ j → Leaves n j → after (and_left t j) k ≡ and_left t (after j k)
@@ -40,7 +40,7 @@ bind-alike {A} {B} {m} {r} k x n s t h f = rw (x.alike s t (omega arith)) (go (r
     go (accepted a u) e l = f a u e l
 
 pub bind : {A B : Type 0} {m n : ℕ} {r : Reader A} {k : A → Reader B} → Settles m r → ((a : A) → Settles n (k a)) → Settles (m + n) (r >>= k)
-unfolding ◌>>=◌
+unfolding followed
 bind {A} {B} {m} {n} {r} {k} x y = record {
   alike = λ s t h. bind-alike k x n s t h (λ a u e l. (y a).alike u t l);
   leaves = λ s l h. go l (r s) (x.leaves s (n + l) (omega arith));
@@ -53,7 +53,7 @@ bind {A} {B} {m} {n} {r} {k} x y = record {
 -- with what is told of each value that r accepts
 told : {A B : Type 0} {m most : ℕ} {r : Reader A} {k : A → Reader B} → Settles m r → m ≤ most
     → ((a : A) (s t : List ℕ) → r s ≡ accepted a t → (n : ℕ) × Settles n (k a) × (length s + n ≤ most + length t)) → Settles most (r >>= k)
-unfolding ◌>>=◌
+unfolding followed
 told {A} {B} {m} {most} {r} {k} x g f = record {
   alike = λ s t h. bind-alike k x 0 s t (omega arith) (λ a u e l. let (n, y, i) = f a s u e in y.alike u t (omega arith));
   leaves = λ s l h. go s l h (r s) refl;
@@ -125,12 +125,12 @@ some_fields k w = record {
 
 -- a mark is a field of two bytes
 marks : (m : ℕ) → Settles 2 (mark m)
-unfolding mark field give refuse ◌>>=◌
+unfolding mark field give refuse followed
 marks m = instead (bind (a-field 2) (λ x. either (eqb x m) (given tt) (refusal 2))) (λ s h. rw (le-ltb _ _ h))
 
 -- bytes present are left to the reader after
 presents : {A : Type 0} {n k : ℕ} {r : Reader A} → Settles k r → n ≤ k → Settles k (present n >> r)
-unfolding ◌>>◌
+unfolding followed
 presents {n = n} x g = instead x (λ s h. rw (present-yes n s (omega arith)))
 
 nothings : Settles 1 nothing

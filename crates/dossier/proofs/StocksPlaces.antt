@@ -18,7 +18,7 @@ use Rattle.wire.proofs.BytesLaws.{Below, length-bytes, length-each, take-bytes, 
 use Rattle.dossier.specs.Marks.{mark_st, mark_pa, mark_da}
 use Rattle.dossier.specs.Plan.{Plan}
 use Rattle.dossier.specs.Records.{Head, HeadInRange, head_bytes, StocksInRange, stocks_bytes, AreasInRange, areas_bytes, bytes_if_any}
-use Rattle.dossier.specs.Reader.{refused, accepted, Reader, after, ◌>>=◌, ◌>>◌, give, begin, fields, is, if_any, within, equal}
+use Rattle.dossier.specs.Reader.{refused, accepted, Reader, after, ◌>>◌, give, begin, fields, is, if_any, within, equal, followed}
 use Rattle.dossier.specs.JudgingRecords.{each, stocks, stocks_if_any, areas}
 use Rattle.dossier.specs.Judging.{opening, dossier, opening_piece}
 use Rattle.dossier.proofs.ReaderLaws.{bind_no, begin-yes, stands-bytes}
@@ -40,7 +40,7 @@ mark_other m x n t small f =
 
 -- ---- ST by itself
 stocks_cut : (t : List ℕ) → length t < 24 → stocks (bytes 2 mark_st ++ t) ≡ refused 1
-unfolding stocks ◌>>◌
+unfolding stocks followed
 stocks_cut t l = rw (begin_cut mark_st 24 (bytes 2 mark_st ++ t) (simp (length-append, length-bytes) (omega arith)) (take-bytes 2 mark_st t (lit< tt)) (rw drop-bytes l))
 
 module _ (xs : List ℕ) (twelve : length xs ≡ 12) (small : Below (256 ^ 2) xs) where
@@ -51,7 +51,7 @@ module _ (xs : List ℕ) (twelve : length xs ≡ 12) (small : Below (256 ^ 2) xs
   limits = within_tests 11 0 (λ i. get_or xs i 0) greatest_stock
 
   tested : (u : List ℕ) → (StocksInRange xs → ⊥) → (each classes limit >> (equal 11 (get_or xs class_nf 0) 0 >> give xs)) u ≡ refused 11
-  unfolding ◌>>◌
+  unfolding followed
   tested u f = limited (each-either limits 12 u)
     where
       zero : (b : Bool) → (b ≡ true → ⊥) → after (cond b (accepted (tt {0}) u) (refused 11)) (λ _. give xs) ≡ refused 11
@@ -66,7 +66,7 @@ module _ (xs : List ℕ) (twelve : length xs ≡ 12) (small : Below (256 ^ 2) xs
       limited (inr e) = rw e
 
   stocks_wrong : (t : List ℕ) → (StocksInRange xs → ⊥) → stocks (bytes 2 mark_st ++ (bytes_of_each 2 xs ++ t)) ≡ refused 11
-  unfolding stocks fields ◌>>◌ ◌>>=◌
+  unfolding stocks fields followed
   stocks_wrong t f =
       let u = bytes_of_each 2 xs ++ t in
       let long : 24 ≤ length u = simp (length-append, length-each) (omega arith) in
@@ -75,12 +75,12 @@ module _ (xs : List ℕ) (twelve : length xs ≡ 12) (small : Below (256 ^ 2) xs
 
 -- ---- at its place, after HD
 if_any_fault : (t : List ℕ) (n : ℕ) → stocks (bytes 2 mark_st ++ t) ≡ refused n → stocks_if_any (bytes 2 mark_st ++ t) ≡ refused n
-unfolding stocks_if_any if_any ◌>>=◌
+unfolding stocks_if_any if_any followed
 if_any_fault t n e = rw (stands-bytes (is mark_st) mark_st t (lit< tt), e)
 
 module _ (h : Head) (p : HeadInRange h) where
   stocks_fault : (t : List ℕ) (n : ℕ) → stocks_if_any t ≡ refused n → opening (head_bytes h ++ t) ≡ refused n
-  unfolding opening ◌>>=◌
+  unfolding opening followed
   stocks_fault t n e = rw (head_exact.reads h t tt p, e)
 
   pub cut_stocks : (t : List ℕ) → length t < 24 → opening (head_bytes h ++ (bytes 2 mark_st ++ t)) ≡ refused 1
@@ -92,18 +92,18 @@ module _ (h : Head) (p : HeadInRange h) where
   stocks_out-of_range xs t twelve small f = stocks_fault _ 11 (if_any_fault _ 11 (stocks_wrong xs twelve small t f))
 
   areas_fault : (m : Option (List ℕ)) (s t : List ℕ) (n : ℕ) → stocks_if_any s ≡ accepted m t → areas mark_pa 1 t ≡ refused n → opening (head_bytes h ++ s) ≡ refused n
-  unfolding opening ◌>>=◌
+  unfolding opening followed
   areas_fault m s t n e f = rw (head_exact.reads h s tt p, e, f)
 
   pub second_stocks : (xs t : List ℕ) → StocksInRange xs → opening (head_bytes h ++ (stocks_bytes xs ++ (bytes 2 mark_st ++ t))) ≡ refused 2
   unfolding bytes_if_any
   second_stocks xs t q =
       areas_fault (some xs) _ _ 2 (stocks_if_any_exact.reads (some xs) (bytes 2 mark_st ++ t) tt (q, stocks-begin xs _))
-      (unfold areas ◌>>◌ in rw (mark_other mark_pa mark_st 96 t (lit< tt) (λ e. omega arith)))
+      (unfold areas followed in rw (mark_other mark_pa mark_st 96 t (lit< tt) (λ e. omega arith)))
 
   pub late_stocks : (a t : List ℕ) → AreasInRange 1 a → opening (head_bytes h ++ (areas_bytes mark_pa a ++ (bytes 2 mark_st ++ t))) ≡ refused 2
-  unfolding opening ◌>>=◌ bytes_if_any
+  unfolding opening followed bytes_if_any
   late_stocks a t q =
       let none_here = stocks_if_any_exact.reads none (areas_bytes mark_pa a ++ (bytes 2 mark_st ++ t)) tt (areas-begin a (bytes 2 mark_st ++ t)) in
       let there = (areas_exact mark_pa 1 (lit< tt)).reads a (bytes 2 mark_st ++ t) tt q in
-      rw (head_exact.reads h _ tt p, none_here, there) (unfold areas ◌>>◌ in rw (mark_other mark_da mark_st 96 t (lit< tt) (λ e. omega arith)))
+      rw (head_exact.reads h _ tt p, none_here, there) (unfold areas followed in rw (mark_other mark_da mark_st 96 t (lit< tt) (λ e. omega arith)))

@@ -9,13 +9,13 @@ use native.Mathlib.Omega.{arith}
 use borrow.Author.Tests.{le-ltb, eq-eqb, eqb-true}
 use lib.Dec.{ltb, eqb, lit<}
 use lib.ListN.{length, take, drop}
-use Rattle.activity.specs.declared.Activity.{Activity}
+use Rattle.activity.specs.Records.{Activity}
 use Rattle.activity.specs.Activity.{RunInRange}
 use Rattle.wire.specs.Bytes.{Bytes, number, bytes, joined}
 use Rattle.dossier.specs.Marks.{mark_pl}
 use Rattle.dossier.specs.Layouts.{activity_bytes}
 use Rattle.dossier.specs.Records.{RecordsInRange, records_bytes}
-use Rattle.dossier.specs.Reader.{refused, accepted, after, ◌>>=◌, ◌>>◌, give, refuse, mark, stands, is, upon}
+use Rattle.dossier.specs.Reader.{refused, accepted, after, give, refuse, mark, stands, is, upon, followed}
 use Rattle.dossier.specs.JudgingRecords.{activity_mark}
 use Rattle.dossier.specs.Judging.{activities, Taken, from_the_plan, taken}
 use Rattle.dossier.proofs.ReaderLaws.{no, step, was, mark-yes, mark-only, stands_short, stands-bytes, stood}
@@ -76,16 +76,16 @@ unfolding mark
 mark-stands m s h = let (long, e) = stood m s h in (simp (le-ltb _ _ long, eq-eqb _ _ e), long)
 
 pub taken_missing : (s : List ℕ) → stands (is mark_pl) s ≡ true → taken none s ≡ refused 13
-unfolding taken upon ◌>>◌ from_the_plan refuse
+unfolding taken upon followed from_the_plan refuse
 taken_missing s h = rw (h, (mark-stands mark_pl s h).0)
 
 pub taken-planned : (l : List Activity) (s : List ℕ) → stands (is mark_pl) s ≡ true → taken (some l) s ≡ accepted (record { planned = true; activities = l }) (drop 2 s)
-unfolding taken upon ◌>>◌ from_the_plan give
+unfolding taken upon followed from_the_plan give
 taken-planned l s h = rw (h, (mark-stands mark_pl s h).0)
 
 pub taken_own : (from_plan : Option (List Activity)) (s : List ℕ) → stands (is mark_pl) s ≡ false
     → taken from_plan s ≡ after (activities [] s) (λ l. accepted (record { planned = false; activities = l }))
-unfolding taken upon ◌>>=◌ give
+unfolding taken upon followed give
 taken_own from_plan s h = rw h
 
 -- ---- what it accepts
@@ -95,7 +95,7 @@ TakenThen from_plan r t = RecordsInRange from_plan r.planned r.activities × Fol
 module _ (from_plan : Option (List Activity)) where
   taken-reads : (planned : Bool) (l : List Activity) (t : List ℕ) → RecordsInRange from_plan planned l → Follows planned l t
       → taken from_plan (records_bytes planned l ++ t) ≡ accepted (record { planned = planned; activities = l }) t
-  unfolding taken upon records_bytes run_bytes ◌>>=◌ ◌>>◌ give
+  unfolding taken upon records_bytes run_bytes followed give
   taken-reads false l t p f = rw (f.1, activities_exact.reads l t tt (p, f.0))
   taken-reads true l t p f = rw (stands-bytes (is mark_pl) mark_pl t (lit< tt), mark-yes mark_pl t (lit< tt), p) (unfold from_the_plan give in refl)
 
@@ -109,7 +109,7 @@ module _ (from_plan : Option (List Activity)) where
 
   -- PL was read, and the plan's records; or own ones
   taken-only : (s : List ℕ) → Bytes s → (r : Taken) (t : List ℕ) → taken from_plan s ≡ accepted r t → TakenThen from_plan r t × (s ≡ records_bytes r.planned r.activities ++ t)
-  unfolding taken upon ◌>>=◌ ◌>>◌
+  unfolding taken upon followed
   taken-only s bs r t q = go (stands (is mark_pl) s) refl q
     where
       planned : (u : List ℕ) → s ≡ bytes 2 mark_pl ++ u → (r.planned ≡ true) × (from_plan ≡ some r.activities) × (u ≡ t)

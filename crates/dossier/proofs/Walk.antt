@@ -9,7 +9,7 @@ use native.Mathlib.Omega.{arith}
 use borrow.Author.Tests.{ltb-false}
 use lib.Dec.{T, ltb, eqb, lit≤}
 use lib.ListN.{length}
-use Rattle.activity.specs.declared.Activity.{Activity}
+use Rattle.activity.specs.Records.{Activity}
 use Rattle.activity.specs.Activity.{Range, ranges, residues}
 use Rattle.figures.specs.Year.{Year}
 use Rattle.wire.specs.Bytes.{total}
@@ -32,7 +32,7 @@ use Rattle.dossier.specs.Causes.{
 use Rattle.dossier.specs.Marks.{mark_st, mark_yr, mark_cr, mark_pl, mark_en}
 use Rattle.dossier.specs.Layouts.{Made, Layout, layouts}
 use Rattle.dossier.specs.Records.{Due, next}
-use Rattle.dossier.specs.Reader.{accepted, Reader, ◌>>=◌, ◌>>◌, give, refuse, mark, is, upon, if_any, present, begin, field, fields, outside, within, equal, holds, nothing}
+use Rattle.dossier.specs.Reader.{accepted, Reader, ◌>>=◌, ◌>>◌, give, refuse, mark, is, upon, if_any, present, begin, field, fields, outside, within, equal, holds, nothing, followed}
 use Rattle.dossier.specs.JudgingRecords.{head, each, stocks, stocks_if_any, areas, matrix, matrix_under, conversions, in_range, made_from, fields_of, row_under, activity_mark, activity_under, activity}
 use Rattle.dossier.specs.Judging.{opening, another, run, activities, from_the_plan, taken, none_left, year_records, year_left, year, end, years}
 use Rattle.dossier.proofs.ReaderLaws.{bind-bind}
@@ -63,13 +63,13 @@ Short most (l ∷ rest) = (total l.widths ≤ most) × Short most rest
 
 -- a record that begins, and its fields
 begin_then : {A : Type 0} (m n : ℕ) (r : Reader A) → ◌≡◌ {A = Reader A} (begin m n >> r) (mark m >> (present n >> r))
-unfolding begin ◌>>◌
+unfolding begin followed
 begin_then m n r = λ i s. bind-bind (mark m s) (λ _. present n) (λ _. r) i
 
 module _ (Allowed : ℕ → Type 0) (P : (A : Type 0) → ℕ → Reader A → Type 0) (c : Closed Allowed P) where
   -- ---- the other steps
   seq : {A B : Type 0} {m n : ℕ} {r : Reader A} {q : Reader B} → P _ m r → P _ n q → P _ (m + n) (r >> q)
-  unfolding ◌>>◌ ◌>>=◌
+  unfolding followed
   seq x y = c.bind x (λ _. y)
 
   one_of : {A : Type 0} {m : ℕ} {r q : Reader A} (b : Bool) → P _ m r → P _ m q → P _ m (cond b r q)

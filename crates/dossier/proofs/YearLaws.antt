@@ -12,7 +12,7 @@ use lib.Dec.{eqb, lit<}
 use lib.ListN.{length-append}
 use Rattle.classes.specs.Calendar.{days_in_year}
 use Rattle.classes.proofs.CalendarLaws.{days_range}
-use Rattle.activity.specs.declared.Activity.{Activity}
+use Rattle.activity.specs.Records.{Activity}
 use Rattle.activity.specs.Activity.{Within, RunInRange}
 use Rattle.figures.specs.Year.{Year}
 use Rattle.figures.specs.Figures.{small_activity}
@@ -21,7 +21,7 @@ use Rattle.dossier.specs.Marks.{mark_yr, mark_cp, mark_cd}
 use Rattle.dossier.specs.Plan.{Plan, records_for}
 use Rattle.dossier.specs.Records.{Due, ConversionsInRange, conversions_bytes, RecordsInRange, records_bytes, figures_for, YearInRange, year_bytes}
 use Rattle.dossier.specs.Claims.{DueInRange}
-use Rattle.dossier.specs.Reader.{refused, accepted, ◌>>=◌, ◌>>◌, begin, stands}
+use Rattle.dossier.specs.Reader.{refused, accepted, begin, stands, followed}
 use Rattle.dossier.specs.Judging.{activities, taken, none_left, year_records, year_left, allowed, year}
 use Rattle.wire.proofs.BytesLaws.{length-bytes}
 use Rattle.dossier.proofs.ReaderLaws.{no, step, begin-only, within-yes, equal-yes, stands-bytes}
@@ -104,7 +104,7 @@ pub none_left-only : {A : Type 0} (s : List ℕ) → Bytes s → (a : A) (t : Li
 none_left-only {A} s bs a t q = let e = first q in no _ _ _ (sym (none_left_lem e.0) ∙ ap none_left (sym e.1) ∙ q)
   where
     first : none_left s ≡ accepted a t → (u : List ℕ) × (s ≡ bytes 2 mark_yr ++ u)
-    first q = unfold none_left ◌>>◌ in let f = step (begin mark_yr _ s) _ q in (f.1, (begin-only mark_yr _ s bs f.2).0)
+    first q = unfold none_left followed in let f = step (begin mark_yr _ s) _ q in (f.1, (begin-only mark_yr _ s bs f.2).0)
 
 pub left_exact : (due : Due) → DueInRange due → Exact 0 Any (left_for due) year_bytes (LeftThen due)
 unfolding year_left
@@ -179,7 +179,7 @@ tables_bytes y =
 
 module _ (due : Due) (h : DueInRange due) (y : Year) (p : TablesInRange due y) where
   pub records-refused : (r : List ℕ) (n : ℕ) → taken (records_for due.plan due.state.year) r ≡ refused n → year due (tables_bytes y ++ r) ≡ refused n
-  unfolding year_left year_records ◌>>=◌ ◌>>◌
+  unfolding year_left year_records followed
   records-refused r n f =
       let b = conversions_bytes mark_cd y.belt_conversions ++ r in
       let c = conversions_bytes mark_cp y.conversions ++ b in

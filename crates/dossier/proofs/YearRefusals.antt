@@ -12,7 +12,7 @@ use Rattle.activity.specs.Activity.{Within}
 use Rattle.wire.specs.Bytes.{number, bytes, joined}
 use Rattle.dossier.specs.Marks.{mark_yr, mark_cp}
 use Rattle.dossier.specs.Records.{Due}
-use Rattle.dossier.specs.Reader.{refused, Reader, ◌>>=◌, ◌>>◌, begin, field, equal}
+use Rattle.dossier.specs.Reader.{refused, Reader, ◌>>=◌, ◌>>◌, begin, field, equal, followed}
 use Rattle.dossier.specs.JudgingRecords.{conversions}
 use Rattle.dossier.specs.Judging.{year_records, year_left, year}
 use Rattle.wire.proofs.BytesLaws.{length-bytes, take-bytes, drop-bytes}
@@ -24,7 +24,7 @@ year_record y days t = joined (bytes 2 mark_yr ∷ bytes 2 y ∷ bytes 2 days �
 
 pub year-fields : {B : Type 0} (k : ℕ → ℕ → Reader B) (y days : ℕ) (t : List ℕ) → y < 65536 → days < 65536
     → (begin mark_yr 4 >> (field 2 >>= λ v. field 2 >>= λ d. k v d)) (year_record y days t) ≡ k y days t
-unfolding joined field ◌>>=◌ ◌>>◌
+unfolding joined field followed
 year-fields k y days t hy hd =
     let l : 4 ≤ length (bytes 2 y ++ (bytes 2 days ++ t)) = simp (length-append, length-bytes) (omega arith) in
     rw (append-nil, begin-yes mark_yr 4 _ (lit< tt) l, take-bytes 2 y (bytes 2 days ++ t) hy, drop-bytes) (rw (take-bytes 2 days t hd, drop-bytes))
@@ -35,17 +35,17 @@ module _ (due : Due) (y days : ℕ) (t : List ℕ) (left : 1 ≤ due.state.left)
 
   -- "year not the next"
   pub year_wrong_lem : (y ≡ due.state.year → ⊥) → year due (year_record y days t) ≡ refused 6
-  unfolding year_left year_records ◌>>◌ equal
+  unfolding year_left year_records followed equal
   year_wrong_lem h = left-refused due _ 6 (rw (ne_eqb _ _ left_some) (year-fields _ y days t hy hd ∙ simp (ne_eqb _ _ h)))
 
   -- "or d wrong": beyond the days of that Gregorian year, as 366 in 2100
   pub days_wrong : y ≡ due.state.year → days_in_year y < days → year due (year_record y days t) ≡ refused 6
-  unfolding year_left year_records ◌>>◌
+  unfolding year_left year_records followed
   days_wrong e h =
       left-refused due _ 6 (rw (ne_eqb _ _ left_some) (year-fields _ y days t hy hd ∙ rw (equal-yes _ _ _ t e, within-above _ _ _ _ t h)))
 
   year-begun : (n : ℕ) → y ≡ due.state.year → Within 1 days (days_in_year y) → begin mark_cp 1152 t ≡ refused n → year due (year_record y days t) ≡ refused n
-  unfolding year_left year_records conversions ◌>>=◌ ◌>>◌
+  unfolding year_left year_records conversions followed
   year-begun n e d f = left-refused due _ n (rw (ne_eqb _ _ left_some) (year-fields _ y days t hy hd ∙ rw (equal-yes _ _ _ t e, within-yes _ _ _ _ t d, f)))
 
   -- "Last year's table taken where CP is missing: it is 2, or 1 where the bytes end there"

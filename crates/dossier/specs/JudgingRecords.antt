@@ -5,7 +5,7 @@ use Rattle.std.proofs.Math.Option.{Option}
 use Rattle.arithmetic.specs.Sum.{sum}
 use Rattle.classes.specs.Classes.{classes, class_nf, greatest_area, greatest_stock}
 use Rattle.classes.specs.Matrix.{entry, million}
-use Rattle.activity.specs.declared.Activity.{Activity}
+use Rattle.activity.specs.Records.{Activity}
 use Rattle.activity.specs.Activity.{Range, ranges}
 use Rattle.wire.specs.Bytes.{total}
 use Rattle.dossier.specs.Causes.{mark_not_due, head_out_of_range, stock_out_of_range, area_total_wrong, row_sum_wrong, conversion_total_wrong, activity_out_of_range}

@@ -2,8 +2,8 @@
 -- those of the crate activity.
 -- To be believed. Assumes nothing.
 use Rattle.std.specs.Prelude.{ℕ, ◌/◌, Bool, true, false, cond, List, [], ◌∷◌, ◌++◌, eqb}
-use Rattle.activity.specs.declared.Activity.{Activity}
-use Rattle.activity.specs.declared.Activity.TheVariants.{Fuel, Vehicles, Nitrogen, Lime, Residue}
+use Rattle.activity.specs.Records.{Activity}
+use Rattle.activity.specs.Records.Activity.{Fuel, Vehicles, Nitrogen, Lime, Residue}
 use Rattle.wire.specs.Bytes.{bytes}
 use Rattle.dossier.specs.Marks.{mark_fu, mark_ve, mark_ni, mark_li, mark_cr}
 

@@ -3,7 +3,7 @@
 -- To be believed. Assumes nothing.
 use Rattle.std.specs.Prelude.{ℕ, ◌+◌, ◌≤◌, cond, List, [], ◌∷◌, map, eqb, length}
 use Rattle.std.proofs.Math.Option.{Option, none, some}
-use Rattle.activity.specs.declared.Activity.{Activity}
+use Rattle.activity.specs.Records.{Activity}
 use Rattle.activity.specs.Activity.{Within, RunInRange}
 use Rattle.wire.specs.Bytes.{bytes, joined}
 use Rattle.dossier.specs.Marks.{mark_py, mark_en}

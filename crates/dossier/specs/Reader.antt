@@ -20,11 +20,14 @@ after (refused n) f = refused n
 after (accepted a rest) f = f a rest
 
 -- one reader, then another (the line after, in a do block)
-unfoldable pub ◌>>=◌ : {A B : Type 0} → Reader A → (A → Reader B) → Reader B
-◌>>=◌ r f s = after (r s) f
+unfoldable pub followed : {A B : Type 0} → Reader A → (A → Reader B) → Reader B
+followed r f s = after (r s) f
 
-unfoldable pub ◌>>◌ : {A B : Type 0} → Reader A → Reader B → Reader B
-◌>>◌ r q s = after (r s) (λ _. q)
+abbrev pub ◌>>=◌ : {A B : Type 0} → Reader A → (A → Reader B) → Reader B
+◌>>=◌ = followed
+
+abbrev pub ◌>>◌ : {A B : Type 0} → Reader A → Reader B → Reader B
+◌>>◌ r q = followed r (λ _. q)
 
 -- this value, whatever follows
 unfoldable pub give : {A : Type 0} → A → Reader A

@@ -1,17 +1,18 @@
 -- Document 01, "The dossier": each record's fields, their ranges, and its bytes. What YR, CP, CD and the activity records bring is a Year of the
 -- crate figures; an activity record is an Activity of the crate activity, which has its ranges; its bytes are in Layouts.
 -- To be believed. Assumes nothing.
-use Rattle.std.specs.Prelude.{ℕ, ◌≤◌, ◌<◌, ◌≡◌, Bool, true, false, List, [], ◌∷◌, map, pos, length, get_or, replicate}
+use Rattle.std.specs.Prelude.{ℕ, ◌≤◌, ◌<◌, ◌≡◌, Bool, true, false, List, [], ◌∷◌, map, pos, length, get_or}
 use Rattle.std.proofs.Math.Option.{Option, none, some}
-use Rattle.classes.specs.declared.AreaUnits.{AreaUnits}
+use Rattle.units.specs.declared.AreaUnits.{AreaUnits}
 use Rattle.classes.specs.Classes.{classes, class_nf, carbon_stocks, greatest_area, greatest_stock}
 use Rattle.classes.specs.Matrix.{RowsSum, option_one_matrix}
 use Rattle.classes.specs.Calendar.{days_in_year}
 use Rattle.projection.specs.Projection.{opened_region}
-use Rattle.activity.specs.declared.Activity.{Activity}
+use Rattle.activity.specs.Records.{Activity}
 use Rattle.activity.specs.Activity.{Within, RunInRange}
 use Rattle.figures.specs.declared.Terms.{Terms}
 use Rattle.figures.specs.declared.State.{State}
+use Rattle.figures.specs.Nothing.{no_terms, no_state}
 use Rattle.figures.specs.Year.{Year}
 use Rattle.figures.specs.declared.Figures.{Figures}
 use Rattle.figures.specs.Figures.{small_activity}
@@ -131,16 +132,10 @@ state_of o = record {
 
 -- "all zeros": the terms and the state of a ledger whose opening was refused
 unfoldable pub empty_terms : Terms
-empty_terms = record { option = 0; stocks = replicate 12 0; matrix = replicate 144 0; start = record { 0 = 0 }; beltstart = record { 0 = 0 } }
+empty_terms = no_terms
 
 unfoldable pub empty_state : State
-empty_state = record {
-  year = 0;
-  left = 0;
-  project = opened_region (units (replicate 12 0));
-  belt = opened_region (units (replicate 12 0));
-  total = record { 0 = pos 0 };
-}
+empty_state = no_state
 
 -- what an opening settles: the terms, and the state that it starts
 pub record Settled : Type 0 where

@@ -1,7 +1,7 @@
 -- Request #105, "14, after the later record's fields, in a plan too": the bytes whose first fault is a record that equals an earlier one of its year.
 -- To be believed. Assumes nothing.
 use Rattle.std.specs.Prelude.{ℕ, ◌<◌, ◌≤◌, ◌≡◌, List, [], ◌∷◌, ◌++◌, map, length}
-use Rattle.activity.specs.declared.Activity.{Activity}
+use Rattle.activity.specs.Records.{Activity}
 use Rattle.activity.specs.Activity.{residues, ActivityInRange, NoneOf, RunInRange}
 use Rattle.wire.specs.Bytes.{bytes, joined}
 use Rattle.dossier.specs.Marks.{mark_py}

@@ -1,6 +1,2 @@
-pub mod HeadLaws
-pub mod StocksLaws
-pub mod AreasLaws
-pub mod MatrixLaws
-pub mod OpeningLaws
-pub mod Rulesets
+pub mod AmountLaws
+pub mod Reading

@@ -1,4 +1,3 @@
-pub mod YearLaws
-pub mod PlanLaws
+pub mod RecordsLaws
+pub mod LendLaws
 pub mod FindLaws
-pub mod Rulesets

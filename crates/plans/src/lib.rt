@@ -1,143 +1,149 @@
-// The plan: its years judged once, each with its place, and the records of a year found in it.
+//! A plan: its years judged once, and the records of a year found among them.
 #![tactic(auto)]
 
-ghost use Rattle.std.specs.Prelude.{◌≡◌, ◌≤◌, ◌<◌, length, drop};
-ghost use Rattle.dossier.specs.JudgingPlan.{plan_year, plan_fault, lent_plan};
-ghost use Rattle.plans.specs.declared.PlanAnswer.{PlanAnswer as Answer};
-ghost use Rattle.plans.specs.Answers.{PlanYearSaid, PlanEndSaid, PlanSaid, FoundIn};
+ghost use Rattle.std.specs.Prelude.{◌≡◌, ◌==◌, [], option_map, OnOk};
+ghost use Rattle.std.specs.List.{find};
+ghost use Rattle.dossier.specs.JudgingPlan.{plan_year, plan_years, plan_fault as fault_number, lent_plan};
+ghost use Rattle.dossier.specs.Plan.{records_for};
+ghost use Rattle.refusals.specs.Refusals.{number_of};
+ghost use Rattle.cursor.specs.Says.{says};
+ghost use Rattle.plans.specs.Answers.{Finds, Holds};
 
-const PY: u64 = 0x5059;
+use arrayvec::ArrayVec;
+use cursor::Reader;
+use refusals::Refusal;
+use std::marker::Model;
 
-const EN: u64 = 0x454e;
+const PY: u16 = 0x5059;
 
+const EN: u16 = 0x454e;
+
+/// The most years that a plan may have.
+const MOST_YEARS: usize = 20;
+
+/// A year of a plan, with the part of the plan's bytes that begins with its activity records.
 #[derive(Drop)]
-enum PlanYearAnswer {
-    Read { year: u64, next: usize },
-    Refused(u8),
+struct PlannedYear<'a> {
+    year: u16,
+    records: &'a [u8],
 }
 
-// How many years the plan has, or the number of the refusal.
+impl<'a> Model for PlannedYear<'a> {
+    ghost use Rattle.dossier.specs.Plan.{PlanYear};
+    ghost use Rattle.plans.specs.Answers.{records_at, Holds};
+
+    ghost Value = { PlanYear };
+
+    ghost view = { λ planned. record { year = planned.year; activities = records_at planned.records.now } };
+
+    ghost invariant = { λ planned. Holds (records_at planned.records.now) planned.records.now };
+}
+
+impl<'a> PlannedYear<'a> {
+    /// The bytes that begin with its activity records.
+    fn records(&self) -> &'a [u8]
+        ensures { Holds self.now.activities result.now }
+    {
+        self.records
+    }
+}
+
+impl<'a> Default for PlannedYear<'a> {
+    /// The year 0 without records.
+    fn default() -> Self {
+        PlannedYear {
+            year: 0,
+            records: &[],
+        }
+    }
+}
+
+/// A plan that is lent: its years, or no plan. Its records stay where they lie.
 #[derive(Drop)]
-pub enum PlanAnswer {
-    Read(usize),
-    Refused(u8),
+pub struct Plan<'a> {
+    years: Option<ArrayVec<PlannedYear<'a>, MOST_YEARS>>,
 }
 
-// Where the plan's bytes have the activity records of a year, if it has the year.
-#[derive(Drop)]
-pub struct Found {
-    pub there: bool,
-    pub from: usize,
+impl<'a> Model for Plan<'a> {
+    ghost use Rattle.std.specs.Prelude.{option_map};
+    ghost use Rattle.std.proofs.Math.Option.{Option};
+    ghost use Rattle.dossier.specs.Plan.{Plan as Years};
+    ghost use Rattle.plans.specs.Answers.{lent};
+
+    ghost Value = { Option Years };
+
+    ghost view = { λ plan. lent (option_map (λ years. years.items) plan.years) };
 }
 
-// The number of a fault in a plan: 14 for two equal records, 12 for any other.
-fn plan_fault(n: u8) -> u8
-    ensures { result ≡ plan_fault n }
+/// The fault of a plan: two equal records of a year, or whatever else is not of its form.
+fn plan_fault(refusal: Refusal) -> Refusal
+    ensures { number_of result ≡ fault_number (number_of refusal) }
 {
-    if n == 14 {
-        return 14;
-    }
-    12
-}
-
-// A year of the plan from a place on: PY, its year, which is least or later, and its records.
-#[tactic(auto, using(crate::proofs::Rulesets::years))]
-fn read_plan_year(plan: &[u8], at: usize, least: u64) -> PlanYearAnswer
-    requires { at ≤ length plan.now }
-    ensures { PlanYearSaid (plan_year least (drop at plan.now)) plan.now at result }
-{
-    if cursor::begun(plan, at, PY, 2) != 0 {
-        return PlanYearAnswer::Refused(12);
-    }
-    let year = wire::field16(plan, at + 2);
-    if year < least {
-        return PlanYearAnswer::Refused(12);
-    }
-    let from = at + 4;
-    match activities::read_run(&plan[from..]) {
-        activities::RunAnswer::Refused(n) => PlanYearAnswer::Refused(plan_fault(n)),
-        activities::RunAnswer::Read { next, .. } => PlanYearAnswer::Read {
-            year,
-            next: from + next,
-        },
+    match refusal {
+        Refusal::RecordRepeated => Refusal::RecordRepeated,
+        _ => Refusal::PlanNotOfForm,
     }
 }
 
-// Whether EN stands at a place, and nothing after it.
-#[tactic(auto, using(crate::proofs::Rulesets::endings), unfolding(wire::specs::Bytes::field_at))]
-fn ends(plan: &[u8], at: usize) -> bool
-    requires { at ≤ length plan.now }
-    ensures { PlanEndSaid (drop at plan.now) result }
+/// PY, its year, which is least or later, and its records.
+#[tactic(auto, using(crate::proofs::RecordsLaws::records_refused, crate::proofs::RecordsLaws::records_read), unfolding(dossier::specs::JudgingPlan::plan_year, dossier::specs::Reader::followed, dossier::specs::Reader::field, dossier::specs::Reader::give))]
+fn read_planned_year<'a>(reader: &mut Reader<'a>, least: u64) -> Result<PlannedYear<'a>, Refusal>
+    ensures { says (λ planned. planned) result reader.new ≡ plan_year least reader.old }
 {
-    if plan.len() - at != 2 {
-        return false;
-    }
-    wire::field16(plan, at) == EN
+    reader.begin(PY, 2)?;
+    let year = reader.u16();
+    reader.within(least, u64::from(year), 65_535, Refusal::PlanNotOfForm)?;
+    let records = reader.rest();
+    activities::read_run(reader)?;
+    Ok(PlannedYear { year, records })
 }
 
-// The years of a plan that is lent, the place of each stored, and its end.
-#[tactic(auto, using(crate::proofs::Rulesets::planning))]
-fn read_years(plan: &[u8], places: &mut [usize; 20]) -> PlanAnswer
-    requires plan_nonzero { 0 < length plan.now }
-    requires places_len { length places.old ≡ 20 }
-    ensures { PlanSaid (lent_plan plan.now) plan.now places.new result }
+/// The plan's years, then EN and nothing more.
+#[tactic(auto, unfolding(dossier::specs::JudgingPlan::plan_years, dossier::specs::JudgingPlan::plan_end, dossier::specs::Reader::followed, dossier::specs::Reader::upon, dossier::specs::Reader::give))]
+fn read_years<'a>(reader: &mut Reader<'a>) -> Result<ArrayVec<PlannedYear<'a>, MOST_YEARS>, Refusal>
+    ensures value { says (λ years. years.items) result reader.new ≡ plan_years 20 0 [] reader.old }
+    ensures over { OnOk result (reader.new ≡ []) }
 {
-    let mut at: usize = 0;
-    let mut count: usize = 0;
+    let mut years: ArrayVec<PlannedYear<'a>, MOST_YEARS> = ArrayVec::new();
     let mut least: u64 = 0;
-    while cursor::stands(plan, at, PY) {
-        if count == 20 {
-            return PlanAnswer::Refused(12);
-        }
-        match read_plan_year(plan, at, least) {
-            PlanYearAnswer::Read { year, next } => {
-                places[count] = at + 2;
-                least = year + 1;
-                at = next;
-            }
-            PlanYearAnswer::Refused(n) => {
-                return PlanAnswer::Refused(n);
-            }
-        }
-        count += 1;
+    while !years.is_full() && reader.stands(PY) {
+        let planned = read_planned_year(reader, least)?;
+        least = u64::from(planned.year) + 1;
+        years.push(planned);
     }
-    if !ends(plan, at) {
-        return PlanAnswer::Refused(12);
-    }
-    PlanAnswer::Read(count)
+    reader.mark(EN)?;
+    reader.nothing()?;
+    Ok(years)
 }
 
-// Judges a plan, and stores where the year of each PY stands.
-#[tactic(auto, using(dossier::proofs::PlanSteps::lent_none))]
-pub fn read_plan(plan: &[u8], places: &mut [usize; 20]) -> PlanAnswer
-    requires { length places.old ≡ 20 }
-    ensures { PlanSaid (lent_plan plan.now) plan.now places.new result }
+/// The one of these years that has this number, if there is one.
+fn year_among<'y, 'a>(years: &'y [PlannedYear<'a>], year: u64) -> Option<&'y PlannedYear<'a>>
+    ensures { option_map (λ planned. planned.now) result ≡ find (λ planned. planned.year == year) years.now }
 {
-    if plan.len() == 0 {
-        return PlanAnswer::Read(0);
-    }
-    read_years(plan, places)
+    years.iter().find(|planned| u64::from(planned.year) == year)
 }
 
-// Finds the records of a year: places are those of the plan's first years, count of them.
-#[tactic(auto, using(crate::proofs::Rulesets::seeking))]
-pub fn find(plan: &[u8], places: &[usize; 20], count: usize, year: u64) -> Found
-    requires { PlanSaid (lent_plan plan.now) plan.now places.now (Answer.Read count) }
-    ensures { FoundIn (lent_plan plan.now) plan.now year result }
-{
-    let mut k: usize = 0;
-    while k < count {
-        let place = places[k];
-        if wire::field16(plan, place) == year {
-            return Found {
-                there: true,
-                from: place + 2,
-            };
+impl<'a> Plan<'a> {
+    /// Judges what is lent as a plan: no bytes are none. Refused with `RecordRepeated` where two records of a year are equal, with
+    /// `PlanNotOfForm` for whatever else is not of its form (docs/DOSSIER.md, "The plan").
+    #[tactic(auto, using(crate::proofs::LendLaws::no_plan, crate::proofs::LendLaws::plan_refused, crate::proofs::LendLaws::plan_read))]
+    pub fn read(bytes: &'a [u8]) -> Result<Self, Refusal>
+        ensures { says (λ plan. plan) result [] ≡ lent_plan bytes.now }
+    {
+        if bytes.is_empty() {
+            return Ok(Plan { years: None });
         }
-        k += 1;
+        let years = read_years(&mut Reader::new(bytes)).map_err(plan_fault)?;
+        Ok(Plan { years: Some(years) })
     }
-    Found {
-        there: false,
-        from: 0,
+
+    /// The bytes that begin with the activity records of a year, where the plan has the year.
+    #[tactic(auto, using(crate::proofs::FindLaws::records_are), unfolding(dossier::specs::Plan::records_for))]
+    pub fn records_of(&self, year: u64) -> Option<&'a [u8]>
+        ensures { Finds (records_for self.now year) result }
+    {
+        let years = self.years.as_ref()?;
+        let planned = year_among(years, year)?;
+        Some(planned.records())
     }
 }

@@ -1,4 +1,2 @@
-pub mod RowLaws
 pub mod TableLaws
 pub mod ReadersLaws
-pub mod Rulesets

@@ -1,131 +1,98 @@
-// A table of conversions, CP or CD: read a row at a time and weighed as it is read; nothing of it is stored.
+//! A table of conversions, CP or CD: weighed by the emission factors as it is read; nothing of it is stored.
 #![tactic(auto)]
 
-ghost use Rattle.std.specs.Prelude.{◌≡◌, ◌+◌, ◌≤◌, ◌<◌, length, drop};
-ghost use Rattle.wire.specs.Bytes.{numbers};
+ghost use Rattle.std.specs.Prelude.{◌≡◌, ◌<◌, ◌≤◌, ◌*◌, All, map, SomeIff, IfSome, IfOk};
+ghost use Rattle.wire.specs.Bytes.{number, total as sum_of};
+ghost use Rattle.classes.specs.Classes.{greatest_stock};
 ghost use Rattle.classes.specs.Matrix.{entry};
-ghost use Rattle.projection.specs.Ranges.{SmallArea, FactorsFit};
+ghost use Rattle.projection.specs.Ranges.{SmallArea};
+ghost use Rattle.figures.specs.Figures.{monitored_carbon};
+ghost use Rattle.figures.specs.Ranges.{SmallCarbon};
+ghost use Rattle.cursor.specs.Says.{says};
+ghost use Rattle.tables.specs.Answers.{monitored_table};
 ghost use Rattle.tables.specs.Rows.{row_of};
-ghost use Rattle.tables.specs.Answers.{monitored_table, table_says, TableInside};
 
-use classes::{AreaUnits, CarbonUnits};
+use classes::Factors;
+use cursor::Reader;
+use refusals::Refusal;
+use units::{AreaUnits, CarbonUnits};
 
-// A row of conversions as far as it is read: whether one is above the total, and the sum and the carbon of those before the first such, of all where there is none.
-#[derive(Drop)]
+/// The area of a conversion, from its eight bytes.
+#[tactic(auto, using(crate::proofs::TableLaws::eight_bytes))]
+pub fn area_of(conversion: &[u8; 8]) -> AreaUnits
+    ensures { result.0 ≡ number conversion.now }
+{
+    AreaUnits(u64::from_be_bytes(*conversion))
+}
+
+/// What the conversions of a row come to.
+#[derive(Clone, Copy)]
 struct Row {
-    above: bool,
-    sum: AreaUnits,
+    area: AreaUnits,
     carbon: CarbonUnits,
 }
 
-#[derive(Drop)]
-pub enum TableAnswer {
-    Read { carbon: CarbonUnits, next: usize },
-    Refused(u8),
+/// The area and the carbon of the row of class `from`, where none of its conversions is above the total: each is tested by itself.
+fn weighed(row: &[[u8; 8]; 12], total: AreaUnits, factors: &Factors, from: usize) -> Option<Row>
+    requires class { from < 12 }
+    requires small_total { SmallArea total.0 }
+    ensures value { SomeIff result (All (λ conversion. number conversion ≤ total.0) row.now) (row_of row.now factors.now from) }
+    ensures small { IfSome result (λ row. row.carbon.0 ≤ row.area.0 * greatest_stock) }
+{
+    let mut sum = AreaUnits(0);
+    let mut carbon = CarbonUnits(0);
+    for (to, conversion) in row.iter().enumerate() {
+        let area = area_of(conversion);
+        if total < area {
+            return None;
+        }
+        sum += area;
+        carbon += area * factors.entries[12 * from + to];
+    }
+    Some(Row { area: sum, carbon })
 }
 
-// With the conversion at place j of the row that begins at a place: composed from its eight bytes, tested against the total by itself, and weighed.
-#[tactic(auto, using(crate::proofs::Rulesets::rows))]
-fn with_next(
-    row: Row,
-    s: &[u8],
-    at: usize,
-    j: usize,
+/// The carbon that a table's conversions set free by these factors, if their areas come to the total. Their sum is tested once a row,
+/// against what the rows before it leave of the total.
+fn carbon_of(
+    conversions: &[[u8; 8]; 144],
     total: AreaUnits,
-    factors: &[u64; 144],
-    k: usize,
-) -> Row
-    requires j_bound { (j < 12) × (k + 12 ≤ 144) × (at + 96 ≤ length s.now) × SmallArea total.0 }
-    requires factors_fit { FactorsFit factors.now }
-    requires row_value { row ≡ row_of total.0 factors.now k (numbers j 8 (drop at s.now)) }
-    ensures { result ≡ row_of total.0 factors.now k (numbers (j + 1) 8 (drop at s.now)) }
+    factors: &Factors,
+) -> Option<CarbonUnits>
+    requires small_total { SmallArea total.0 }
+    ensures value { SomeIff result (sum_of (map number conversions.now) ≡ total.0) (record { 0 = monitored_carbon (entry factors.now) (map number conversions.now) }) }
+    ensures small { IfSome result (λ carbon. SmallCarbon carbon.0) }
 {
-    if row.above {
-        return row;
-    }
-    let sum = row.sum;
-    let carbon = row.carbon;
-    let x = AreaUnits(wire::field64(s, at + 8 * j));
-    if total.0 < x.0 {
-        return Row {
-            above: true,
-            sum,
-            carbon,
-        };
-    }
-    Row {
-        above: false,
-        sum: sum.plus(x),
-        carbon: carbon.plus(projection::released(x, factors[k + j])),
-    }
-}
-
-// The row that begins at a place, weighed by the factors from place k on. Twelve calls, for the compiler would leave a loop of them a loop, which is slower.
-#[tactic(auto, unfolding(crate::specs::Rows::some_above, crate::specs::Rows::sound, crate::specs::Rows::weighed, wire::specs::Bytes::numbers, wire::specs::Bytes::total))]
-fn read_row(s: &[u8], at: usize, total: AreaUnits, factors: &[u64; 144], k: usize) -> Row
-    requires k_bound { (k + 12 ≤ 144) × (at + 96 ≤ length s.now) × SmallArea total.0 }
-    requires factors_fit { FactorsFit factors.now }
-    ensures { result ≡ row_of total.0 factors.now k (numbers 12 8 (drop at s.now)) }
-{
-    let none = Row {
-        above: false,
-        sum: AreaUnits(0),
-        carbon: CarbonUnits(0),
-    };
-    let row = with_next(none, s, at, 0, total, factors, k);
-    let row = with_next(row, s, at, 1, total, factors, k);
-    let row = with_next(row, s, at, 2, total, factors, k);
-    let row = with_next(row, s, at, 3, total, factors, k);
-    let row = with_next(row, s, at, 4, total, factors, k);
-    let row = with_next(row, s, at, 5, total, factors, k);
-    let row = with_next(row, s, at, 6, total, factors, k);
-    let row = with_next(row, s, at, 7, total, factors, k);
-    let row = with_next(row, s, at, 8, total, factors, k);
-    let row = with_next(row, s, at, 9, total, factors, k);
-    let row = with_next(row, s, at, 10, total, factors, k);
-    with_next(row, s, at, 11, total, factors, k)
-}
-
-// CP or CD from at: 144 conversions whose sum is total, weighed by the factors. The sum is tested once a row.
-#[tactic(auto, unfolding(crate::specs::Rows::weighed, wire::specs::Bytes::numbers, wire::specs::Bytes::total))]
-pub fn read_table(
-    s: &[u8],
-    at: usize,
-    m: u64,
-    total: AreaUnits,
-    factors: &[u64; 144],
-) -> TableAnswer
-    requires at_in_bounds { (at ≤ length s.now) × SmallArea total.0 }
-    requires factors_fit { FactorsFit factors.now }
-    ensures result_value { table_says s.now result ≡ monitored_table (entry factors.now) m total.0 (drop at s.now) }
-    ensures table_inside { TableInside s.now result }
-{
-    let fault = cursor::begun(s, at, m, 1152);
-    if fault != 0 {
-        return TableAnswer::Refused(fault);
-    }
     let mut left = total;
     let mut carbon = CarbonUnits(0);
-    let mut i: usize = 0;
-    while i < 12 {
-        let row = read_row(s, at + 2 + 96 * i, total, factors, 12 * i);
-        if row.above {
-            return TableAnswer::Refused(7);
+    let (rows, _) = conversions.as_chunks::<12>();
+    for (from, row) in rows.iter().enumerate() {
+        let sum = weighed(row, total, factors, from)?;
+        if left < sum.area {
+            return None;
         }
-        let sum = row.sum;
-        let rest = left.0;
-        if rest < sum.0 {
-            return TableAnswer::Refused(7);
-        }
-        left = left.minus(sum);
-        carbon = carbon.plus(row.carbon);
-        i += 1;
+        left = left - sum.area;
+        carbon += sum.carbon;
     }
-    if left.0 != 0 {
-        return TableAnswer::Refused(7);
+    if left != AreaUnits(0) {
+        return None;
     }
-    TableAnswer::Read {
-        carbon,
-        next: at + 1154,
-    }
+    Some(carbon)
+}
+
+/// The carbon of CP or CD, weighed by these factors. Where its conversions do not come to the total, it is refused with
+/// `ConversionTotalWrong`.
+#[tactic(auto, unfolding(crate::specs::Answers::monitored_table, dossier::specs::JudgingRecords::conversions, dossier::specs::Reader::followed, dossier::specs::Reader::fields, dossier::specs::Reader::equal, dossier::specs::Reader::give))]
+pub fn read_table(
+    reader: &mut Reader,
+    mark: u16,
+    total: AreaUnits,
+    factors: &Factors,
+) -> Result<CarbonUnits, Refusal>
+    requires small_total { SmallArea total.0 }
+    ensures value { says (λ carbon. carbon) result reader.new ≡ monitored_table (entry factors.now) mark total.0 reader.old }
+    ensures small { IfOk result (λ carbon. SmallCarbon carbon.0) }
+{
+    reader.begin(mark, 1152)?;
+    carbon_of(reader.fields(), total, factors).ok_or(Refusal::ConversionTotalWrong)
 }

@@ -1,4 +1,4 @@
 pub mod BytesLaws
 pub mod NumbersLaws
-pub mod FieldLaws
+pub mod EndianLaws
 pub mod SignedLaws

@@ -1,26 +1,28 @@
--- Two's complement: what it is below 0 and from 0 on, and that the bytes of a figure say the figure.
+-- Two's complement: that it is std's, and that the bytes of a figure say the figure.
 -- Assumes nothing.
-use Prim.Native.Nat.{ℕ, ◌+◌, ◌-◌, ◌*◌, ◌^◌, ◌≤◌, ◌<◌}
-use mathlib.Core.Path.{◌≡◌, refl, ◌∙◌, ap, sym}
-use mathlib.Core.List.{List, [], ◌∷◌, ◌++◌, append_assoc, append-nil}
-use native.Mathlib.Omega.{arith}
-use lib.IntN.{ℤ, pos, negsuc}
-use lib.Signed.{mag}
-use lib.ListN.{length, drop, length-append, length-drop}
-use lib.Seq.{sets, sets-eq, take_at, drop_at, drop-append-add, drop-drop}
+use Rattle.std.proofs.Common.{◌≡◌, ℕ, ◌+◌, ◌-◌, ◌*◌, ◌^◌, ◌≤◌, ◌<◌, List, [], ◌∷◌, ◌++◌, ℤ, pos, negsuc, length, take, drop, get_or, length-append, length-drop, append_assoc, refl, ◌∙◌, ap, sym, arith}
+use Rattle.std.specs.Int.Signed.{mag}
+use Rattle.std.specs.Int.{w64, cast_unsigned, to_be_bytes}
+use Rattle.std.proofs.Math.Seq.{length-sets, drop-append-add}
+use Rattle.std.proofs.lemmas.List.{take_at, drop_at, drop-drop, take_more, length-take-le, append-nil}
+use Rattle.std.proofs.lemmas.List.Edits.{sets, sets-eq}
 use borrow.Author.Tests.{lt-ltb, le-ltb}
+use borrow.Rule.Slice.PartMut.{put_mid}
 use Rattle.arithmetic.proofs.StoreLaws.{sets_append}
 use Rattle.wire.specs.Bytes.{bytes, field_at}
 use Rattle.wire.specs.Signed.{twos_complement, figure_bytes, figures_bytes, written, signed, figure_at}
+use Rattle.wire.proofs.EndianLaws.{to_be_is_bytes}
 use Rattle.wire.proofs.BytesLaws.{length-bytes, take-bytes}
 
-pub twos_below : (z : ℤ) (n : ℕ) → z ≡ negsuc n → 18446744073709551615 - n ≡ twos_complement z
+twos_cast : (z : ℤ) → cast_unsigned w64 z ≡ twos_complement z
 unfolding twos_complement
-twos_below z n e = rw e (omega arith)
+twos_cast (pos n) = refl
+twos_cast (negsuc n) = omega arith
 
-pub twos_above : (z : ℤ) (n : ℕ) → z ≡ pos n → n ≡ twos_complement z
-unfolding twos_complement
-twos_above z n e = rw e refl
+-- what std makes of a figure are its bytes
+pub figure_to_be : (z : ℤ) → to_be_bytes w64 (cast_unsigned w64 z) ≡ figure_bytes z
+unfolding figure_bytes
+figure_to_be z = to_be_is_bytes w64 (cast_unsigned w64 z) ∙ ap (bytes 8) (twos_cast z)
 
 twos_lt : (z : ℤ) → mag z < 2 ^ 63 → twos_complement z < 256 ^ 8
 unfolding twos_complement
@@ -60,6 +62,23 @@ pub stored_one : (xs : List ℤ) (z : ℤ) (s : List ℕ) (at next : ℕ) → at
     → sets (sets s at (figures_bytes xs)) next (figure_bytes z) ≡ sets s at (figures_bytes (xs ++ (z ∷ [])))
 unfolding figures_bytes
 stored_one xs z s at next e = rw (append-nil (figure_bytes z)) at (stored_more xs (z ∷ []) s at next e)
+
+-- bytes put in the middle are stored there
+put_is_stored : (s bytes : List ℕ) (at n : ℕ) → length bytes ≡ n → at + n ≤ length s → put_mid at (at + n - at) s bytes ≡ sets s at bytes
+put_is_stored s bytes at n e fits =
+    let room : at + n - at ≡ length bytes = omega arith in
+    rw (room, drop-drop (length bytes) at s) (sym (sets-eq bytes s at (omega arith) ∙ append_assoc (take at s) bytes (drop (at + length bytes) s)))
+
+-- the figure at place k is stored after those before it
+pub stored_next : (figures : List ℤ) (k : ℕ) (s : List ℕ) (at : ℕ) → k < length figures → at + 8 * k + 8 ≤ length s
+    → put_mid (at + 8 * k) (at + 8 * k + 8 - (at + 8 * k)) (sets s at (figures_bytes (take k figures))) (figure_bytes (get_or figures k (pos 0)))
+    ≡ sets s at (figures_bytes (take (k + 1) figures))
+stored_next figures k s at h fits =
+    let before : length (take k figures) ≡ k = length-take-le k figures (omega arith) in
+    let done = sets s at (figures_bytes (take k figures)) in
+    let long : length done ≡ length s = length-sets s at (figures_bytes (take k figures)) in
+    put_is_stored done (figure_bytes (get_or figures k (pos 0))) (at + 8 * k) 8 (length-figure (get_or figures k (pos 0))) (omega arith)
+    ∙ rw (take_more figures k (pos 0) h) (stored_one (take k figures) (get_or figures k (pos 0)) s at (at + 8 * k) (omega arith))
 
 -- the figure z that stands after the figures xs in a buffer
 pub written-figure : (xs : List ℤ) (z : ℤ) (ys : List ℤ) (buffer : List ℕ) (at : ℕ) → 8 * length xs ≡ at → mag z < 2 ^ 63 → figure_at (written (xs ++ (z ∷ ys)) buffer) at ≡ z

@@ -1,18 +1,11 @@
 -- What the functions of this crate use, for their attributes.
 -- Assumes nothing.
-use Rattle.std.proofs.Common.{length-drop}
-use Rattle.dossier.proofs.Refusals.{end_short, end-again, end_other, end_followed, end_there}
-use Rattle.years.proofs.EndLaws.{left_cut, left-none, left-says}
-use Rattle.years.proofs.YearLaws.{belt_no, belt-yes, records_keep, year-none, year_no, year_other, days_wrong}
+use Rattle.years.proofs.TableLaws.{table_refused, table_read, table_carbon}
+use Rattle.years.proofs.TakenLaws.{taken_refused, taken_read, taken_summed}
+use Rattle.plans.proofs.RecordsLaws.{records_refused, records_read, records_summed, records_found, found-hold}
 
--- YR where no year is left
-pub ruleset none = (left_cut, left-none)
+-- a year's activity records, or those of the plan
+pub ruleset records = (records_refused, records_read, records_summed, records_found, found-hold)
 
--- EN
-pub ruleset endings = (end_short, end-again, end_other, end_followed, end_there, left-says, length-drop)
-
--- CD, once CP is read
-pub ruleset belts = (belt_no, belt-yes, records_keep)
-
--- YR
-pub ruleset years = (year-none, year_no, year_other, days_wrong)
+-- a year's tables, by their carbon, and its records
+pub ruleset parts = (table_refused, table_read, table_carbon, taken_refused, taken_read, taken_summed)

@@ -1,198 +1,162 @@
-// A year of a dossier: YR, CP, CD and its activity records or PL.
+//! A year of a dossier: YR, CP, CD, and its activity records or PL.
 #![tactic(auto)]
 
-ghost use Rattle.std.specs.Prelude.{◌≡◌, cond, ◌≤◌, ◌<◌, length, drop, []};
+ghost use Rattle.std.specs.Prelude.{◌≡◌, ◌≤◌, IfOk};
+ghost use Rattle.std.specs.Int.Signed.{mag};
 ghost use Rattle.classes.specs.Matrix.{entry};
-ghost use Rattle.projection.specs.Ranges.{SmallArea, FactorsFit};
-ghost use Rattle.dossier.specs.Claims.{number_of};
+ghost use Rattle.classes.specs.Ranges.{greatest_activity};
+ghost use Rattle.dossier.specs.Plan.{records_for};
 ghost use Rattle.dossier.specs.Judging.{none_left, end};
-ghost use Rattle.cursor.specs.Answers.{number_says};
-ghost use Rattle.plans.specs.Answers.{taken_at, FoundInside};
-ghost use Rattle.years.specs.Answers.{summarized_records, summarized_tables, summarized_year, year_says, RecordsInside, TablesInside, YearFits};
+ghost use Rattle.cursor.specs.Says.{says, done};
+ghost use Rattle.dossier.specs.Marks.{mark_pl};
+ghost use Rattle.dossier.specs.Reader.{is, stands as mark_stands};
+ghost use Rattle.years.specs.Answers.{PartFor, summed_records, summarized_year};
 
-use classes::{AreaUnits, CarbonUnits, Grams};
-use figures::YearDays;
-use plans::Found;
-use tables::TableAnswer;
+use classes::Factors;
+use cursor::Reader;
+use figures::{State, Terms, YearDays};
+use plans::Plan;
+use refusals::Refusal;
+use std::marker::Model;
+use units::{CarbonUnits, Grams};
 
-const YR: u64 = 0x5952;
+const YR: u16 = 0x5952;
 
-const CP: u64 = 0x4350;
+const CP: u16 = 0x4350;
 
-const CD: u64 = 0x4344;
+const CD: u16 = 0x4344;
 
-const PL: u64 = 0x504c;
+const PL: u16 = 0x504c;
 
-const EN: u64 = 0x454e;
+const EN: u16 = 0x454e;
 
+/// A year as it is filed: its days, the carbon of its conversions in the project area and the belt, and the grams of CO2 of its activity
+/// records, which are those of the plan where it is planned. The carbon and the grams are in the ranges in which figures fit 64 bits.
+#[derive(Clone, Copy, Debug)]
+pub struct YearSummary {
+    pub days: YearDays,
+    pub project: CarbonUnits,
+    pub belt: CarbonUnits,
+    pub planned: bool,
+    pub activity: Grams,
+}
+
+impl Model for YearSummary {
+    ghost use Rattle.years.specs.Answers.{Summary, SmallSummary};
+
+    ghost Value = { Summary };
+
+    ghost view = { λ y. record { days = y.days; project = y.project; belt = y.belt; planned = y.planned; activity = y.activity } };
+
+    ghost inverse = { λ y. record { days = y.days; project = y.project; belt = y.belt; planned = y.planned; activity = y.activity } };
+
+    ghost invariant = { λ y. SmallSummary (record { days = y.days; project = y.project; belt = y.belt; planned = y.planned; activity = y.activity }) };
+}
+
+/// The emissions of a year's activity records, and whether they are those of the plan.
 #[derive(Drop)]
-pub enum YearAnswer {
-    Read {
-        days: YearDays,
-        project: CarbonUnits,
-        belt: CarbonUnits,
-        planned: bool,
-        activity: Grams,
-        next: usize,
-    },
-    Refused(u8),
+struct Emissions {
+    planned: bool,
+    activity: Grams,
 }
 
-// A year from CP on, of these days: both tables, and the activity records or PL.
-#[tactic(auto, using(crate::proofs::Rulesets::belts), unfolding(crate::specs::Answers::summarized_tables))]
-fn read_tables<'a>(
-    s: &'a [u8],
-    at: usize,
-    plan: &'a [u8],
-    found: Found,
-    days: YearDays,
-    project: AreaUnits,
-    belt: AreaUnits,
-    factors: &[u64; 144],
-) -> YearAnswer
-    requires at_in_bounds { (at ≤ length s.now) × SmallArea project.0 × SmallArea belt.0 }
-    requires factors_fit { FactorsFit factors.now }
-    requires found_inside { FoundInside plan.now found }
-    ensures result_value { year_says s.now result ≡ summarized_tables (entry factors.now) (taken_at plan.now found) days project.0 belt.0 (drop at s.now) }
-    ensures tables_inside { TablesInside s.now result }
+/// The bytes that a year's activity records are read from, uncopied: where PL stands the plan's part that has the year, otherwise what is left of the
+/// dossier. Refused with `PlannedYearWrong` where the plan lacks the year.
+#[tactic(auto, using(crate::proofs::Rulesets::records))]
+fn records_part<'a>(reader: &Reader<'a>, plan: &Plan<'a>, year: u64) -> Result<&'a [u8], Refusal>
+    ensures { PartFor (mark_stands (is mark_pl) reader.now) (records_for plan.now year) reader.now result }
 {
-    match tables::read_table(s, at, CP, project, factors) {
-        TableAnswer::Refused(n) => YearAnswer::Refused(n),
-        TableAnswer::Read { carbon, next } => match tables::read_table(s, next, CD, belt, factors) {
-            TableAnswer::Refused(n) => YearAnswer::Refused(n),
-            TableAnswer::Read {
-                carbon: belt_carbon,
-                next: records,
-            } => read_records(s, records, plan, found, days, carbon, belt_carbon),
-        },
+    if reader.stands(PL) {
+        plan.records_of(year).ok_or(Refusal::PlannedYearWrong)
+    } else {
+        Ok(reader.rest())
     }
 }
 
-// The bytes that a year's activity records are read from: the plan's from a place on where PL stands, otherwise the dossier's own.
-fn records_part<'a>(s: &'a [u8], at: usize, plan: &'a [u8], from: usize, planned: bool) -> &'a [u8]
-    requires { (at ≤ length s.now) × (from ≤ length plan.now) }
-    ensures { result.now ≡ cond planned (drop from plan.now) (drop at s.now) }
-{
-    if planned { &plan[from..] } else { &s[at..] }
-}
-
-// The bytes of the dossier that stand for the records: PL, or the records themselves, which end at a place of their part.
-fn records_length(end: usize, planned: bool) -> usize
-    ensures { result ≡ cond planned 2 end }
-{
-    if planned { 2 } else { end }
-}
-
-// A year from its activity records on, or from PL, where the plan's records are found.
+/// A year's activity records, or PL and those that the plan has for the year.
+#[tactic(auto, using(crate::proofs::Rulesets::records), unfolding(crate::specs::Answers::summed_records, dossier::specs::Judging::taken, dossier::specs::Judging::from_the_plan, dossier::specs::Reader::followed, dossier::specs::Reader::upon, dossier::specs::Reader::give, dossier::specs::Reader::refuse))]
 fn read_records<'a>(
-    s: &'a [u8],
-    at: usize,
-    plan: &'a [u8],
-    found: Found,
-    days: YearDays,
-    project: CarbonUnits,
-    belt: CarbonUnits,
-) -> YearAnswer
-    requires at_in_bounds { at ≤ length s.now }
-    requires found_inside { FoundInside plan.now found }
-    ensures result_value { year_says s.now result ≡ summarized_records (taken_at plan.now found) days project belt (drop at s.now) }
-    ensures records_inside { RecordsInside s.now result }
-{
-    let planned = cursor::stands(s, at, PL);
-    if planned {
-        if !found.there {
-            return YearAnswer::Refused(13);
-        }
-    }
-    let from = found.from;
-    match activities::read_run(records_part(s, at, plan, from, planned)) {
-        activities::RunAnswer::Refused(n) => YearAnswer::Refused(n),
-        activities::RunAnswer::Read { grams, next } => YearAnswer::Read {
-            days,
-            project,
-            belt,
-            planned,
-            activity: grams,
-            next: at + records_length(next, planned),
-        },
-    }
-}
-
-// Where no year is left: 1 or 2 unless YR stands at a place, complete, and then 6.
-#[tactic(auto, using(crate::proofs::Rulesets::none))]
-fn none_left(s: &[u8], at: usize) -> u8
-    requires { at ≤ length s.now }
-    ensures { (result ≡ number_of (none_left {A = Unit {0}} (drop at s.now))) × (0 < result) }
-{
-    let fault = cursor::begun(s, at, YR, 4);
-    if fault != 0 {
-        return fault;
-    }
-    6
-}
-
-// EN from at and nothing after it, once all years are read: 0, or the number of the fault. YR stays due there.
-#[tactic(auto, using(crate::proofs::Rulesets::endings), unfolding(wire::specs::Bytes::field_at))]
-pub fn read_end(s: &[u8], at: usize) -> u8
-    requires { at ≤ length s.now }
-    ensures { number_says [] result ≡ end (drop at s.now) }
-{
-    let left = s.len() - at;
-    if left < 2 {
-        return 1;
-    }
-    let m = wire::field16(s, at);
-    if m == YR {
-        return none_left(s, at);
-    }
-    if m != EN {
-        return 2;
-    }
-    if 2 < left {
-        return 2;
-    }
-    0
-}
-
-// YR to the last activity record or PL, from at: year is due, left years are left, project and belt are the totals of PA and DA, and the plan's records
-// for the year are found.
-#[tactic(auto, using(crate::proofs::Rulesets::years))]
-pub fn read_year<'a>(
-    s: &'a [u8],
-    at: usize,
-    plan: &'a [u8],
-    found: Found,
+    reader: &mut Reader<'a>,
+    plan: &Plan<'a>,
     year: u64,
-    left: u64,
-    project: AreaUnits,
-    belt: AreaUnits,
-    factors: &[u64; 144],
-) -> YearAnswer
-    requires at_in_bounds { (at ≤ length s.now) × SmallArea project.0 × SmallArea belt.0 }
-    requires factors_fit { FactorsFit factors.now }
-    requires found_inside { FoundInside plan.now found }
-    ensures result_value { year_says s.now result ≡ summarized_year (entry factors.now) (taken_at plan.now found) year left project.0 belt.0 (drop at s.now) }
-    ensures tables_inside { TablesInside s.now result }
-    ensures year_fits { YearFits left result }
+) -> Result<Emissions, Refusal>
+    ensures value { says (λ emissions. emissions) result reader.new ≡ summed_records (records_for plan.now year) reader.old }
+    ensures small { IfOk result (λ emissions. mag emissions.activity.0 ≤ greatest_activity) }
 {
-    if left == 0 {
-        return YearAnswer::Refused(none_left(s, at));
+    let part = records_part(reader, plan, year)?;
+    let mut records = Reader::new(part);
+    if !reader.stands(PL) {
+        let activity = activities::read_run(&mut records)?;
+        *reader = records;
+        return Ok(Emissions {
+            planned: false,
+            activity,
+        });
     }
-    let fault = cursor::begun(s, at, YR, 4);
-    if fault != 0 {
-        return YearAnswer::Refused(fault);
+    reader.mark(PL)?;
+    let activity = activities::read_run(&mut records)?;
+    Ok(Emissions {
+        planned: true,
+        activity,
+    })
+}
+
+/// YR to the last activity record or PL: the year that is due, where one is left, with conversions that sum to the totals of PA and DA
+/// and are weighed by the factors that count. `YearWrong` where it is another year, none is left or its days are wrong;
+/// `ConversionTotalWrong`; `PlannedYearWrong` where the plan lacks the year; and the refusals of activity records.
+#[tactic(auto, using(crate::proofs::Rulesets::parts), unfolding(crate::specs::Answers::summarized_year, dossier::specs::Judging::year_left, dossier::specs::Judging::year_records, dossier::specs::Judging::none_left, dossier::specs::Reader::followed, dossier::specs::Reader::field, dossier::specs::Reader::give, dossier::specs::Reader::refuse))]
+pub fn read_year<'a>(
+    reader: &mut Reader<'a>,
+    plan: &Plan<'a>,
+    terms: &Terms,
+    state: &State,
+    counted: &Factors,
+) -> Result<YearSummary, Refusal>
+    ensures value { says (λ summary. summary) result reader.new ≡ summarized_year (entry counted.now) (records_for plan.now state.now.year) state.now.year state.now.left terms.now.start.0 terms.now.beltstart.0 reader.old }
+    ensures left { IfOk result (λ _. 1 ≤ state.now.left) }
+{
+    reader.begin(YR, 4)?;
+    if state.left == 0 {
+        return Err(Refusal::YearWrong);
     }
-    if wire::field16(s, at + 2) != year {
-        return YearAnswer::Refused(6);
-    }
-    let operating = wire::field16(s, at + 4);
-    let calendar = classes::days_in_year(year);
-    if cursor::outside(operating, 1, calendar) {
-        return YearAnswer::Refused(6);
-    }
+    let calendar_year = u64::from(reader.u16());
+    let operating = u64::from(reader.u16());
+    reader.equal(calendar_year, state.year, Refusal::YearWrong)?;
+    let calendar = classes::days_in_year(calendar_year);
+    reader.within(1, operating, calendar, Refusal::YearWrong)?;
     let days = YearDays {
         operating,
         calendar,
     };
-    read_tables(s, at + 6, plan, found, days, project, belt, factors)
+    let project = tables::read_table(reader, CP, terms.start, counted)?;
+    let belt = tables::read_table(reader, CD, terms.beltstart, counted)?;
+    let Emissions { planned, activity } = read_records(reader, plan, state.year)?;
+    Ok(YearSummary {
+        days,
+        project,
+        belt,
+        planned,
+        activity,
+    })
+}
+
+/// YR where no year is left: `YearWrong`, whatever follows it.
+#[tactic(auto, unfolding(dossier::specs::Judging::none_left, dossier::specs::Reader::followed, dossier::specs::Reader::refuse))]
+fn none_left(reader: &mut Reader) -> Result<(), Refusal>
+    ensures { says done result reader.new ≡ none_left reader.old }
+{
+    reader.begin(YR, 4)?;
+    Err(Refusal::YearWrong)
+}
+
+/// EN and nothing after it, once all years are read. YR stays due there, and is `YearWrong`.
+#[tactic(auto, unfolding(dossier::specs::Judging::end, dossier::specs::Reader::followed, dossier::specs::Reader::upon))]
+pub fn read_end(reader: &mut Reader) -> Result<(), Refusal>
+    ensures { says done result reader.new ≡ end reader.old }
+{
+    if reader.stands(YR) {
+        return none_left(reader);
+    }
+    reader.mark(EN)?;
+    reader.nothing()
 }

@@ -1,9 +1,10 @@
 use Prim.Native.Nat.{◌-◌}
+use lib.ListN.{length}
 use Rattle.activities.proofs.RunLaws.{SoFar}
 use Rattle.activities.proofs.read_records.Given as goal
 
-abbrev pub invariant-loop-at : goal.invariant-loop-at
-invariant-loop-at l = SoFar l.part l.low l.high l.at l.grams l.count l.residues
+abbrev pub invariant-records : goal.invariant-records
+invariant-records l = SoFar l.fn.reader l.keys l.reader l.grams l.residues
 
-abbrev pub decreases-loop-at : goal.decreases-loop-at
-decreases-loop-at l = 60 - l.count
+abbrev pub decreases-records : goal.decreases-records
+decreases-records l = 60 - length l.keys

@@ -1,12 +1,11 @@
-use borrow.Author.Rules.{rules}
-use Rattle.activities.proofs.EndLaws.{ending}
+use Rattle.activities.proofs.EndLaws.{two_equal, none_equal, sum_small}
 use Rattle.activities.proofs.read_run.Goals as goal
 
-pub returns-then-any_equal-clause-result_value : goal.returns-then-any_equal-clause-result_value
-returns-then-any_equal-clause-result_value c = search (rules, ending)
+pub returns-then-any_equal-clause-value : goal.returns-then-any_equal-clause-value
+returns-then-any_equal-clause-value c = two_equal c.read_records-grams.ensures (cc)
 
-pub returns-clause-result_value : goal.returns-clause-result_value
-returns-clause-result_value c = search (rules, ending)
+pub returns-clause-value : goal.returns-clause-value
+returns-clause-value c = none_equal c.read_records-grams.ensures (cc)
 
-pub returns-clause-run_inside : goal.returns-clause-run_inside
-returns-clause-run_inside c = search (rules, ending)
+pub returns-clause-small : goal.returns-clause-small
+returns-clause-small c = sum_small c.read_records-grams.ensures

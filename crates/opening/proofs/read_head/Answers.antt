@@ -1,8 +1,9 @@
-use Rattle.dossier.specs.Marks.{mark_hd}
-use Rattle.dossier.specs.JudgingRecords.{head}
-use Rattle.cursor.proofs.AtLaws.{begun_no}
+use Rattle.std.proofs.Common.{sym, arith}
+use Rattle.dossier.proofs.ReaderLaws.{within-only}
 use Rattle.opening.proofs.read_head.Goals as goal
 
-pub returns-then-fault-ne0-clause-result_value : goal.returns-then-fault-ne0-clause-result_value
-unfolding head
-returns-then-fault-ne0-clause-result_value c = begun_no _ 0 mark_hd 4 _ c.begun-fault.ensures.result_value _ c.if-fault-ne0.true
+pub invariant_of-result : goal.invariant_of-result
+invariant_of-result c =
+    let first = (within-only 3 2000 _ 2200 _ (sym c.in_ok-within-2.ensures)).0 in
+    let years = (within-only 3 1 _ 20 _ (sym c.in_ok-within-3.ensures)).0 in
+    record { few = omega arith; over = omega arith }

@@ -1,14 +1,8 @@
-use mathlib.Core.Path.{◌∙◌}
-use Rattle.dossier.specs.JudgingRecords.{head}
-use Rattle.dossier.proofs.ReaderLaws.{bind_no, bind-yes}
-use Rattle.opening.specs.Answers.{from_stocks}
-use Rattle.opening.proofs.OpeningLaws.{settled_is}
+use Rattle.std.proofs.Common.{arith}
 use Rattle.opening.proofs.read_opening.Goals as goal
 
-pub returns-in-Refused-clause-result_value : goal.returns-in-Refused-clause-result_value
-returns-in-Refused-clause-result_value c =
-    rw c.no_opening.ensures (bind_no head from_stocks _ _ c.in-Refused.ensures.result_value ∙ settled_is _)
+pub invariant_of-terms : goal.invariant_of-terms
+invariant_of-terms c = record { start = omega arith; beltstart = omega arith }
 
-pub returns-in-Read-clause-result_value : goal.returns-in-Read-clause-result_value
-returns-in-Read-clause-result_value c =
-    c.with_stocks.ensures.result_value ∙ bind-yes head from_stocks _ _ _ c.in-Read.ensures.result_value ∙ settled_is _
+pub invariant_of-state : goal.invariant_of-state
+invariant_of-state c = record { left = omega arith; year = omega arith; total = omega arith }

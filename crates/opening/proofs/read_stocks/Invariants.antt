@@ -1,20 +1,13 @@
-use mathlib.Core.List.{List}
-use mathlib.Core.Path.{◌≡◌}
-use Prim.Native.Nat.{ℕ, ◌≤◌, ◌-◌, ◌+◌}
-use lib.ListN.{drop}
-use lib.Seq.{sets}
+use Rattle.std.proofs.Common.{ℕ, ◌≤◌, ◌<◌, List, get_or}
+use Rattle.classes.specs.Classes.{greatest_stock}
 use Rattle.wire.specs.Bytes.{numbers}
-use Rattle.opening.proofs.StocksLaws.{StocksRight}
+use Rattle.opening.proofs.Reading.{Read}
 use Rattle.opening.proofs.read_stocks.Given as goal
 
--- the stocks after i turns
-pub record SoFar (s : List ℕ) (at : ℕ) (stocks₀ stocks : List ℕ) (i : ℕ) : Type 0 where
-  pub bound : i ≤ 12
-  pub stored : stocks ≡ sets stocks₀ 0 (numbers i 2 (drop (at + 2) s))
-  pub right : StocksRight s at i
+-- after i stocks
+pub record SoFar (bytes stocks rest : List ℕ) (i : ℕ) : Type 0 where
+  pub read : Read 12 2 bytes stocks i rest
+  pub small : (k : ℕ) → k < i → get_or (numbers 12 2 bytes) k 0 ≤ greatest_stock
 
-abbrev pub invariant-loop-i : goal.invariant-loop-i
-invariant-loop-i l = SoFar l.s l.at l.initial.stocks l.stocks l.i
-
-abbrev pub decreases-loop-i : goal.decreases-loop-i
-decreases-loop-i l = 12 - l.i
+abbrev pub invariant-loop-stock : goal.invariant-loop-stock
+invariant-loop-stock l = SoFar l.initial.reader l.stock-items l.reader l.stock-index

@@ -1,9 +1,12 @@
-use Prim.Native.Nat.{◌-◌}
-use Rattle.plans.proofs.PlanLaws.{SoFar}
+use Rattle.std.proofs.Common.{◌≡◌, ◌-◌, ◌≤◌, [], length}
+use Rattle.dossier.specs.JudgingPlan.{plan_years}
 use Rattle.plans.proofs.read_years.Given as goal
 
-abbrev pub invariant-loop-at : goal.invariant-loop-at
-invariant-loop-at l = SoFar l.plan l.places l.at l.count l.least
+abbrev pub invariant-loop-reader : goal.invariant-loop-reader
+invariant-loop-reader l = record {
+  few : length l.years.items ≤ 20;
+  goes_on : plan_years 20 0 [] l.initial.reader ≡ plan_years (20 - length l.years.items) l.least l.years.items l.reader;
+}
 
-abbrev pub decreases-loop-at : goal.decreases-loop-at
-decreases-loop-at l = 20 - l.count
+abbrev pub decreases-loop-reader : goal.decreases-loop-reader
+decreases-loop-reader l = 20 - length l.years.items
