@@ -1,5 +1,6 @@
 -- What the functions of this crate use, for their attributes.
 -- Assumes nothing.
+use Rattle.figures.proofs.FiguresLaws.{tonnes-le}
 use Rattle.periods.proofs.EndsLaws.{sound_none, sound_some, end_early, end_late, end-taken, end-last, sound-inside}
 use Rattle.periods.proofs.RunningLaws.{next_fits}
 use Rattle.periods.proofs.IssuedLaws.{issued_now_lem, none-stored}
@@ -11,7 +12,7 @@ pub ruleset ends = (sound_none, sound_some, end_early, end_late, end-taken, end-
 pub ruleset totals = (next_fits)
 
 -- the tonnes at one end
-pub ruleset issues = (issued_now_lem)
+pub ruleset issues = (issued_now_lem, tonnes-le)
 
 -- that an end is one of the years, and that no ends write nothing
 pub ruleset years = (sound-inside, none-stored)

@@ -1,8 +1,8 @@
 -- Ranges in which every running total fits 64 signed bits, and the running totals as the code keeps them.
--- Serves contracts of inner functions and proofs; nothing here has to be believed. Assumes nothing.
-use Rattle.std.specs.Prelude.{ℕ, ◌≤◌, ◌<◌, ◌≡◌, List, ℤ, pos, get_or}
+-- Serves contracts and proofs; nothing here has to be believed. Assumes nothing.
+use Rattle.std.specs.Prelude.{ℕ, ◌*◌, ◌≤◌, ◌<◌, ◌≡◌, List, ℤ, pos, get_or}
 use Rattle.std.specs.Int.Signed.{mag}
-use Rattle.classes.specs.declared.Grams.{Grams}
+use Rattle.units.specs.declared.Grams.{Grams}
 use Rattle.classes.specs.Ranges.{greatest_figure}
 use Rattle.figures.specs.declared.Figures.{Figures}
 use Rattle.periods.specs.Periods.{running_total, credited_in}
@@ -18,3 +18,7 @@ kept_at totals y = (get_or totals y (record { 0 = pos 0 })).0
 
 pub record Kept (k : ℕ) (figures : List Figures) (totals : List Grams) : Type 0 where
   pub at : (y : ℕ) → y ≤ k → kept_at totals y ≡ running_total (credited_in figures) y
+
+-- each is within the ladder of the crate classes for so many years
+abbrev pub Small : (k : ℕ) → List Grams → Type 0
+Small k totals = (y : ℕ) → y ≤ k → mag (kept_at totals y) ≤ y * greatest_figure

@@ -7,7 +7,7 @@ use mathlib.Core.Logic.{◌↔◌}
 use mathlib.Core.List.{List, []}
 use native.Mathlib.Omega.{arith}
 use borrow.Author.Tests.{lt-ltb, le-ltb, ltb-true, ltb-false}
-use lib.ListN.{length, length-append}
+use lib.ListN.{length, take, length-append}
 use lib.Seq.{sets}
 use Rattle.wire.specs.Signed.{figures_bytes, written}
 use Rattle.wire.proofs.SignedLaws.{written-more}
@@ -16,25 +16,11 @@ use Rattle.report.proofs.ReportLaws.{length-years}
 use Rattle.dossier.specs.Causes.{buffer_too_short, ends_wrong}
 use Rattle.periods.specs.Periods.{ends_sound, credited_in, issued_tonnes}
 use Rattle.periods.specs.Ranges.{SmallYears}
+use Rattle.periods.proofs.EndsLaws.{sound-inside}
 use Rattle.periods.proofs.IssuedLaws.{count-issued}
-use Rattle.reckoner.specs.declared.Ledger.{Ledger}
-use Rattle.reckoner.specs.declared.Answer.{Answer}
-use Rattle.reckoner.specs.declared.Step.{Step}
-use Rattle.reckoner.specs.Ledger.{first_year, report}
-use Rattle.reckoner.specs.Calls.{
-  said,
-  too_short,
-  periods_answer,
-  periods_report,
-  periods_says,
-  periods_buffer,
-  close_call,
-  close_says,
-  dossier_call,
-  reckon_says,
-  reckon_number,
-  reckon_buffer,
-}
+use Rattle.periods.proofs.RunningLaws.{first_years_issue}
+use Rattle.reckoner.specs.Ledger.{Ledger, first_year, report}
+use Rattle.reckoner.specs.Calls.{Answer, said, too_short, periods_answer, periods_report, periods_says, periods_buffer, close_says}
 use Rattle.reckoner.proofs.Invariant.{LedgerKept}
 
 -- ---- the numbers written, of a ledger that the calls handed back
@@ -73,29 +59,21 @@ periods_ten l ends size = (go (sound l ends) (too_short l.given (length ends) si
     go false c e h = absurd (omega arith)
 
 module _ (l : Ledger) (ends buffer : List ℕ) where
-  pub periods_wrong : sound l ends ≡ false → (ends_wrong ≡ (periods_says l ends (length buffer)).number) × (buffer ≡ periods_buffer l ends buffer)
-  unfolding periods_answer periods_buffer
-  periods_wrong e = rw e (refl, refl)
-
-  pub periods_short : sound l ends ≡ true → length buffer < 64 * l.given + 32 + 8 * length ends
-      → (buffer_too_short ≡ (periods_says l ends (length buffer)).number) × (buffer ≡ periods_buffer l ends buffer)
-  unfolding periods_answer periods_buffer
-  periods_short e h = rw (e, lt-ltb (length buffer) (64 * l.given + 32 + 8 * length ends) h) (refl, refl)
-
   -- the report, and after it the tonnes issued
   module _ (e : sound l ends ≡ true) (h : 64 * l.given + 32 + 8 * length ends ≤ length buffer) where
     pub buffer_is : periods_buffer l ends buffer ≡ written (periods_report l ends) buffer
     unfolding periods_answer periods_buffer
     buffer_is = rw (e, le-ltb (length buffer) (64 * l.given + 32 + 8 * length ends) h)
 
-    pub periods-written : LedgerKept l → (first : ℕ) → first ≡ first_year l → (reported after : List ℕ) → reported ≡ written (report l) buffer
-        → after ≡ sets reported (64 * l.given + 32) (figures_bytes (issued_tonnes first (credited_in l.figures) ends))
-        → (0 ≡ (periods_says l ends (length buffer)).number) × (after ≡ periods_buffer l ends buffer)
-    periods-written k first ef reported after er ea =
+    pub periods-written : LedgerKept l → (after : List ℕ)
+        → after ≡ sets (written (report l) buffer) (64 * l.given + 32) (figures_bytes (issued_tonnes (first_year l) (credited_in (take l.given l.figures)) ends))
+        → after ≡ periods_buffer l ends buffer
+    periods-written k after ea =
         let issued = issued_tonnes (first_year l) (credited_in l.figures) ends in
+        let same = first_years_issue l.given (first_year l) l.figures ends (sound-inside (first_year l) l.given ends e) in
         let count = count-issued (first_year l) (credited_in l.figures) ends in
         let all = written-more (report l) issued buffer (64 * l.given + 32) (omega (arith, report-count l k)) (omega (arith, count)) in
-        (unfold periods_answer in rw (e, le-ltb (length buffer) (64 * l.given + 32 + 8 * length ends) h), ea ∙ rw (er, ef) (all ∙ sym buffer_is))
+        ea ∙ rw same (all ∙ sym buffer_is)
 
 -- accepted just where the list is sound and the buffer holds 64 × n + 32 bytes and 8 for each end
 pub periods-zero : (l : Ledger) (ends : List ℕ) (size : ℕ)
@@ -115,26 +93,3 @@ pub close-zero : (l : Ledger) (size : ℕ) → ((close_says l size).number ≡ 0
 close-zero l size =
     let x = periods-zero l [] size in
     ((λ h. omega (arith, (x.0 h).1)), λ h. x.1 (unfold ends_sound in refl, omega arith))
-
-module _ (l : Ledger) (size n : ℕ) (e : n ≡ (close_says l size).number) where
-  pub close_no : (n ≡ 0 → ⊥) → record { ledger = l; answer = Answer.Refused n } ≡ close_call l size
-  unfolding close_call periods_answer ends_sound
-  close_no f =
-      let short : 64 * l.given + 32 ≤ size → ⊥ = λ h. f (e ∙ (close-zero l size).1 h) in
-      rw (e, lt-ltb size (64 * l.given + 32 + 8 * 0) (omega arith))
-
-  pub close-yes : n ≡ 0 → record { ledger = l; answer = Answer.Accepted } ≡ close_call l size
-  unfolding close_call periods_answer ends_sound
-  close-yes f = let h = (close-zero l size).0 (sym e ∙ f) in rw (le-ltb size (64 * l.given + 32 + 8 * 0) (omega arith))
-
--- ---- the whole reckoning from the dossier's ledger
-module _ (s plan ends buffer : List ℕ) (r : Step) (e : r ≡ dossier_call s plan) where
-  pub reckon_no : (n : ℕ) → r.answer ≡ Answer.Refused n → (n ≡ reckon_number s plan ends (length buffer)) × (buffer ≡ reckon_buffer s plan ends buffer)
-  unfolding reckon_says reckon_buffer
-  reckon_no n f = rw (reckon_number, ← e, f) (refl, refl)
-
-  pub reckon-yes : r.answer ≡ Answer.Accepted → (n : ℕ) (after : List ℕ)
-      → (n ≡ (periods_says r.ledger ends (length buffer)).number) × (after ≡ periods_buffer r.ledger ends buffer)
-      → (n ≡ reckon_number s plan ends (length buffer)) × (after ≡ reckon_buffer s plan ends buffer)
-  unfolding reckon_says reckon_buffer
-  reckon-yes f n after h = rw (reckon_number, ← e, f) h

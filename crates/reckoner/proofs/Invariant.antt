@@ -21,12 +21,12 @@ use Rattle.classes.specs.Matrix.{entry, RowsSum, option_one_matrix}
 use Rattle.classes.specs.Ranges.{greatest_figure}
 use Rattle.classes.proofs.MatrixLaws.{option_one-rows}
 use Rattle.classes.proofs.FactorLaws.{built_in_le}
-use Rattle.projection.specs.Ranges.{RowsWithin}
+use Rattle.classes.specs.Ranges.{RowsWithin}
 use Rattle.figures.specs.declared.Figures.{Figures}
 use Rattle.figures.specs.Figures.{no_figures}
 use Rattle.figures.specs.Year.{Year}
 use Rattle.figures.specs.Reckoning.{year_figures, after_figures, after_year}
-use Rattle.figures.proofs.FiguresLaws.{FiguresSmall}
+use Rattle.figures.specs.Ranges.{FiguresSmall}
 use Rattle.wire.specs.Bytes.{Bytes}
 use Rattle.dossier.specs.Plan.{Plan, PlanLent}
 use Rattle.dossier.specs.Records.{
@@ -52,9 +52,7 @@ use Rattle.dossier.specs.Reader.{Judged, refused, accepted}
 use Rattle.dossier.specs.Judging.{dossier, opening_piece, year_piece}
 use Rattle.dossier.proofs.WellFormed.{dossier-accepted, opening-accepted, year-accepted}
 use Rattle.dossier.proofs.UnderLaws.{under-either}
-use Rattle.reckoning.specs.Step.{SmallState}
-use Rattle.reckoner.specs.declared.Ledger.{Ledger}
-use Rattle.reckoner.specs.Ledger.{new_ledger, empty_ledger, opened_ledger, due_of, given_year, given_years, ledger_of}
+use Rattle.reckoner.specs.Ledger.{Ledger, new_ledger, empty_ledger, opened_ledger, due_of, given_year, given_years, ledger_of}
 use Rattle.reckoner.specs.Calls.{open_judged, open_call, year_judged, year_call, dossier_judged, dossier_call, HandedBack, opened, given, whole}
 use Rattle.reckoner.proofs.YearRanges.{figures_range}
 use Rattle.reckoner.proofs.RegionKept.{RegionKept, zero_region, opened_region_lem, projected-kept}
@@ -72,10 +70,7 @@ pub record LedgerKept (l : Ledger) : Type 0 where
   pub twenty : length l.figures ≡ 20
   pub figures : (k : ℕ) → k < l.given → FiguresSmall (get_or l.figures k no_figures)
 
--- the ranges that the code asks of a state, and what is due can be said in a year piece
-pub state-kept : (l : Ledger) → LedgerKept l → SmallState l.state
-state-kept l k = record { year = omega arith; project = omega (arith, k.project); belt = omega (arith, k.belt); total = omega (arith, k.total, k.count) }
-
+-- what is due can be said in a year piece
 pub due-kept : (plan : Option Plan) → PlanLent plan → (l : Ledger) → LedgerKept l → DueInRange (due_of plan l)
 unfolding due_of
 due-kept plan lent l k = record { year = omega arith; start = k.project.small; beltstart = k.belt.small; plan = lent }

@@ -1,9 +1,7 @@
 pub mod YearRanges
 pub mod RegionKept
 pub mod Invariant
-pub mod OpenLaws
 pub mod GivenLaws
-pub mod YearLaws
-pub mod DossierLaws
+pub mod CallLaws
 pub mod CloseLaws
 pub mod Numbers

@@ -25,10 +25,8 @@ use Rattle.dossier.proofs.UnderLaws.{under-accepted, year_piece-under-causes, do
 use Rattle.dossier.proofs.Numbers.{under-zero}
 use Rattle.periods.specs.Periods.{EndsInRange, ends_sound}
 use Rattle.periods.proofs.EndsLaws.{ends-judged}
-use Rattle.reckoner.specs.declared.Ledger.{Ledger}
-use Rattle.reckoner.specs.declared.Answer.{Answer}
-use Rattle.reckoner.specs.Ledger.{new_ledger, opened_ledger, given_year, given_years, ledger_of, first_year, due_of}
-use Rattle.reckoner.specs.Calls.{answer_number, dossier_call, reckon_number, open_judged, open_call, year_judged, year_call, too_short, said, periods_answer, periods_report, periods_says, close_says, reckon_says}
+use Rattle.reckoner.specs.Ledger.{Ledger, new_ledger, opened_ledger, given_year, given_years, ledger_of, first_year, due_of}
+use Rattle.reckoner.specs.Calls.{Answer, answer_number, dossier_call, reckon_number, open_judged, open_call, year_judged, year_call, too_short, said, periods_answer, periods_report, periods_says, close_says, reckon_says}
 use Rattle.reckoner.proofs.CloseLaws.{sound, periods-zero}
 
 -- every year given is counted

@@ -10,7 +10,8 @@ use Rattle.arithmetic.proofs.SumLaws.{sum_cong, length-listed}
 use Rattle.classes.specs.Classes.{classes}
 use Rattle.projection.specs.declared.Region.{Region}
 use Rattle.projection.specs.Projection.{area, area_total, next_areas, opened_region, projected_region}
-use Rattle.projection.specs.Ranges.{SmallArea, RowsWithin}
+use Rattle.classes.specs.Ranges.{RowsWithin}
+use Rattle.projection.specs.Ranges.{SmallArea}
 use Rattle.projection.proofs.ProjectionLaws.{areas-kept}
 use Rattle.wire.specs.Bytes.{total}
 use Rattle.wire.proofs.NumbersLaws.{total-entries}

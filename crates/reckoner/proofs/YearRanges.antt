@@ -10,16 +10,17 @@ use Rattle.classes.specs.Calendar.{days_in_year}
 use Rattle.classes.specs.Ranges.{greatest_emissions}
 use Rattle.classes.proofs.FactorLaws.{factor_le}
 use Rattle.projection.specs.declared.Region.{Region}
-use Rattle.projection.specs.Ranges.{SmallArea, SmallRegion, RowsWithin}
+use Rattle.classes.specs.Ranges.{RowsWithin}
+use Rattle.projection.specs.Ranges.{SmallArea, SmallRegion}
 use Rattle.activity.proofs.ActivityLaws.{emissions-le}
 use Rattle.figures.specs.declared.Terms.{Terms}
 use Rattle.figures.specs.declared.YearDays.{YearDays}
 use Rattle.figures.specs.Year.{Year}
 use Rattle.figures.specs.Figures.{counted_factor}
-use Rattle.figures.specs.Ranges.{SmallTable}
+use Rattle.figures.specs.Ranges.{SmallTable, FiguresSmall}
 use Rattle.figures.specs.Reckoning.{region_reference, table_emissions, year_figures}
 use Rattle.figures.proofs.CountedLaws.{small-counted}
-use Rattle.figures.proofs.FiguresLaws.{FiguresSmall, figures-small, projected-small, calendar_days, reference-small, emissions-small, monitored_small}
+use Rattle.figures.proofs.FiguresLaws.{figures-small, projected-small, calendar_days, reference-small, emissions-small, monitored_small}
 use Rattle.dossier.specs.Records.{Due, ConversionsInRange, YearInRange}
 use Rattle.dossier.specs.Claims.{DueInRange}
 use Rattle.dossier.proofs.PlanLaws.{taken_range}

@@ -10,10 +10,17 @@ use Rattle.dossier.specs.Reader.{Judged, refused, accepted}
 use Rattle.dossier.specs.Judging.{dossier, opening_piece, year_piece}
 use Rattle.dossier.specs.JudgingPlan.{under}
 use Rattle.periods.specs.Periods.{ends_sound, credited_in, issued_tonnes}
-use Rattle.reckoner.specs.declared.Ledger.{Ledger}
-use Rattle.reckoner.specs.declared.Answer.{Answer}
-use Rattle.reckoner.specs.declared.Step.{Step}
-use Rattle.reckoner.specs.Ledger.{empty_ledger, opened_ledger, due_of, given_year, ledger_of, first_year, report}
+use Rattle.reckoner.specs.Ledger.{Ledger, empty_ledger, opened_ledger, due_of, given_year, ledger_of, first_year, report}
+
+-- what a call answers: that all is accepted, or the number of the refusal
+pub data Answer : Type 0 where
+  Accepted : Answer
+  Refused : ℕ → Answer
+
+-- what a call of a ledger hands back and answers
+pub record Step : Type 0 where
+  pub ledger : Ledger
+  pub answer : Answer
 
 -- what comes of an answer: of a refusal by its number, or of an acceptance
 abbrev pub answered : {A : Type 0} → Answer → (refusal : ℕ → A) → (acceptance : A) → A

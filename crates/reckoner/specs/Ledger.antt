@@ -4,13 +4,20 @@ use Rattle.std.specs.Prelude.{ℕ, ◌+◌, ◌-◌, List, [], ◌∷◌, ℤ, s
 use Rattle.std.proofs.Math.Option.{Option}
 use Rattle.figures.specs.declared.Terms.{Terms}
 use Rattle.figures.specs.declared.State.{State}
+use Rattle.figures.specs.declared.Figures.{Figures}
 use Rattle.figures.specs.Figures.{no_figures}
 use Rattle.figures.specs.Year.{Year}
 use Rattle.figures.specs.Reckoning.{year_figures, after_year}
 use Rattle.dossier.specs.Plan.{Plan}
 use Rattle.dossier.specs.Records.{Opening, terms_of, state_of, empty_terms, empty_state, Due, Dossier}
 use Rattle.report.specs.Report.{reported}
-use Rattle.reckoner.specs.declared.Ledger.{Ledger}
+
+-- the number of years given, what the opening settled, the state that years change, and the figures of 20 years, those of the years given first
+pub record Ledger : Type 0 where
+  pub given : ℕ
+  pub terms : Terms
+  pub state : State
+  pub figures : List Figures
 
 -- a ledger with no year given
 unfoldable pub new_ledger : Terms → State → Ledger

@@ -1,3 +1,4 @@
 pub mod Ledger
 pub mod Calls
 pub mod Parts
+pub mod Said

@@ -1,323 +1,277 @@
-// The reckoner's public calls: a ledger that is opened, given years and closed, and the whole reckoning of a dossier.
+//! The reckoner's public calls: a ledger that is opened, given years and closed, and the whole reckoning of a dossier.
 #![tactic(auto)]
 
-ghost use Rattle.std.specs.Prelude.{◌≡◌, ◌≤◌, ◌<◌, length, drop, []};
-ghost use Rattle.dossier.specs.JudgingPlan.{lent_plan};
-ghost use Rattle.plans.specs.declared.PlanAnswer.TheVariants.{Read as PlanRead};
-ghost use Rattle.plans.specs.Answers.{PlanSaid};
-ghost use Rattle.reckoning.specs.Step.{StepInside};
-ghost use Rattle.reckoner.specs.Ledger.{new_ledger, first_year};
-ghost use Rattle.reckoner.specs.Parts.{lent_as, give_years, reckoned_says};
-ghost use Rattle.reckoner.specs.Calls.{refused_opening, open_call, year_call, periods_says, periods_buffer, close_call, closed_buffer, dossier_call, HandedBack, reckon_number, reckon_buffer};
+ghost use Rattle.std.specs.Prelude.{◌≡◌, ◌+◌, ◌≤◌, ◌<◌, length, replicate};
+ghost use Rattle.cursor.specs.Says.{says};
+ghost use Rattle.figures.specs.Figures.{no_figures};
+ghost use Rattle.dossier.specs.JudgingPlan.{under};
+ghost use Rattle.reckoner.specs.Ledger.{new_ledger, empty_ledger, first_year};
+ghost use Rattle.reckoner.specs.Calls.{open_call, year_call, periods_answer, periods_buffer, close_call, closed_buffer, dossier_call, HandedBack, answer_number, reckon_number, reckon_buffer};
+ghost use Rattle.reckoner.specs.Parts.{ledger_with, opened_piece, give_years, given_piece, given_dossier, step_judged, step_made};
+ghost use Rattle.reckoner.specs.Said.{answer_of, step_of};
 
-use figures::{Figures, State, Terms};
-use opening::OpeningAnswer;
-use plans::PlanAnswer;
-use reckoning::StepAnswer;
+use cursor::Reader;
+use figures::{FactorTables, Figures, State, Terms};
+use opening::Opened;
+use plans::Plan;
+use refusals::Refusal;
+use std::marker::Model;
 
-// A ledger: the years given, what its opening settled, the state that years change, and the figures of the years given.
+/// The years given: how many, the state that they left, and their figures.
 #[derive(Clone, Copy)]
-pub struct Ledger {
+struct Years {
     given: u64,
-    terms: Terms,
     state: State,
+    // Of the most years that a ledger has, those of the years given first: a ledger is a plain value, which a host keeps and hands back.
     figures: [Figures; 20],
 }
 
-#[derive(Drop)]
-pub enum Answer {
-    Accepted,
-    Refused(u8),
+/// A ledger: what its opening settled, and the years given since.
+#[derive(Clone, Copy)]
+pub struct Ledger {
+    terms: Terms,
+    years: Years,
 }
 
-// The ledger handed back, and the answer.
+impl Model for Ledger {
+    ghost use Rattle.reckoner.specs.Ledger.{Ledger};
+
+    ghost Value = { Ledger };
+
+    ghost use Rattle.reckoner.specs.Calls.{HandedBack};
+    ghost use Rattle.reckoner.specs.Parts.{ledger_with};
+
+    ghost view = { λ ledger. ledger_with ledger.terms ledger.years };
+
+    ghost inverse = { λ ledger. record { terms = ledger.terms; years = record { given = ledger.given; state = ledger.state; figures = ledger.figures } } };
+
+    ghost invariant = { λ ledger. HandedBack (ledger_with ledger.terms ledger.years) };
+}
+
+/// The ledger that a call hands back, and its answer.
 #[derive(Drop)]
 pub struct Step {
     pub ledger: Ledger,
-    pub answer: Answer,
+    pub answer: Result<(), Refusal>,
 }
 
-// A ledger with no year given.
-#[tactic(auto, unfolding(crate::specs::Ledger::new_ledger))]
-fn new_ledger(terms: Terms, state: State) -> Ledger
-    ensures { result ≡ new_ledger terms state }
-{
-    let none = figures::no_figures();
-    Ledger {
-        given: 0,
-        terms,
-        state,
-        figures: [none; 20],
+impl Step {
+    /// Of a call that made a ledger, or was refused and hands back the one that stays.
+    fn of(made: Result<Ledger, Refusal>, stays: Ledger) -> Step
+        ensures { step_of result ≡ step_made stays made }
+    {
+        match made {
+            Ok(ledger) => Step {
+                ledger,
+                answer: Ok(()),
+            },
+            Err(refusal) => Step {
+                ledger: stays,
+                answer: Err(refusal),
+            },
+        }
     }
 }
 
-// A refused opening hands back an empty ledger.
-#[tactic(auto, unfolding(crate::specs::Ledger::empty_ledger))]
-fn refused_opening(n: u8) -> Step
-    ensures { result ≡ refused_opening n }
-{
-    let nothing = opening::no_opening(n);
-    let terms = nothing.terms;
-    let state = nothing.state;
-    Step {
-        ledger: new_ledger(terms, state),
-        answer: Answer::Refused(n),
-    }
-}
-
-// The report of a ledger and the tonnes issued at each end of a list, written where the list is sound and the buffer long enough: 0, or 15 or 10.
-#[tactic(auto, unfolding(crate::specs::Ledger::report))]
-fn write_ledger(ledger: Ledger, ends: &[u16], res: &mut [u8]) -> u8
-    requires { HandedBack ledger }
-    ensures value { result ≡ (periods_says ledger ends.now (length res.old)).number }
-    ensures res_after { res.new ≡ periods_buffer ledger ends.now res.old }
-{
-    let k = ledger.given;
-    let first = ledger.first_year();
-    if !periods::sound(ends, first, k) {
-        return 15;
-    }
-    let length = 64 * (k as usize) + 32;
-    if res.len() < length + 8 * ends.len() {
-        return 10;
-    }
-    let figures = ledger.figures;
-    let state = ledger.state;
-    let balance = state.project.balance;
-    let belt = state.belt.balance;
-    report::write_report(figures, k, state.total, balance, belt, res);
-    periods::write_issued(figures, k, first, ends, res, length);
-    0
-}
-
-// A ledger after the years that it was given, and the place after them; or the number of the first that was refused.
-#[derive(Drop)]
-struct Reckoned {
-    ledger: Ledger,
-    answer: StepAnswer,
-}
-
-// Gives a ledger the next years of the bytes from a place on, count of them, one after the other, under a plan of so many years at these places.
-fn give_years<'a>(
-    s: &'a [u8],
-    from: usize,
-    mut ledger: Ledger,
-    count: u64,
-    plan: &'a [u8],
-    places: &[usize; 20],
-    entries: usize,
-) -> Reckoned
-    requires from_in_bounds { (from ≤ length s.now) × HandedBack ledger }
-    requires plan_said { PlanSaid (lent_plan plan.now) plan.now places.now (PlanRead entries) }
-    ensures result_value { reckoned_says s.now result ≡ give_years (lent_as plan.now) count ledger (drop from s.now) }
-    ensures step_inside { StepInside s.now result.answer }
-{
-    let terms = ledger.terms;
-    let mut factors = [0u64; 144];
-    let mut counted = [0u64; 144];
-    figures::fill_factors(&mut factors, &mut counted, &terms.stocks, terms.option);
-    let mut at = from;
-    let mut k: u64 = 0;
-    while k < count {
-        let state = ledger.state;
-        let found = plans::find(plan, places, entries, state.year);
-        let stepped = reckoning::step(
-            s,
-            at,
-            plan,
-            found,
+impl Years {
+    /// No year given yet.
+    fn none(state: State) -> Years
+        ensures { result ≡ record { given = 0; state = state; figures = replicate 20 no_figures } }
+    {
+        Years {
+            given: 0,
             state,
-            terms.start,
-            terms.beltstart,
-            &terms.matrix,
-            &factors,
-            &counted,
-        );
-        let answer = stepped.answer;
-        let advanced = stepped.advanced;
-        match answer {
-            StepAnswer::Refused(n) => return Reckoned { ledger, answer },
-            StepAnswer::Next(next) => {
-                let y = ledger.given as usize;
-                let figures = advanced.figures;
-                let after = advanced.state;
-                ledger.figures[y] = figures;
-                ledger.state = after;
-                ledger.given = ledger.given + 1;
-                at = next;
-            }
-        }
-        k += 1;
-    }
-    let answer = StepAnswer::Next(at);
-    Reckoned { ledger, answer }
-}
-
-// A dossier's ledger, under a plan of so many years at these places: opened, given all its years, and EN after them; an empty one where that is refused.
-fn give_dossier<'a>(dossier: &'a [u8], plan: &'a [u8], places: &[usize; 20], entries: usize) -> Step
-    requires { PlanSaid (lent_plan plan.now) plan.now places.now (PlanRead entries) }
-    ensures { result ≡ dossier_call dossier.now plan.now }
-{
-    let opened = opening::read_opening(dossier);
-    let answer = opened.answer;
-    let terms = opened.terms;
-    let state = opened.state;
-    match answer {
-        OpeningAnswer::Refused(n) => refused_opening(n),
-        OpeningAnswer::Read(next) => {
-            let ledger = new_ledger(terms, state);
-            let reckoned = give_years(dossier, next, ledger, state.left, plan, places, entries);
-            let answer = reckoned.answer;
-            let ledger = reckoned.ledger;
-            match answer {
-                StepAnswer::Refused(n) => refused_opening(n),
-                StepAnswer::Next(next) => {
-                    let fault = years::read_end(dossier, next);
-                    if fault != 0 {
-                        return refused_opening(fault);
-                    }
-                    Step {
-                        ledger,
-                        answer: Answer::Accepted,
-                    }
-                }
-            }
+            figures: [Figures::none(); 20],
         }
     }
-}
 
-// A ledger given the one year of a piece, under a plan of so many years at these places; the same ledger where that is refused.
-fn give_piece<'a>(
-    ledger: Ledger,
-    piece: &'a [u8],
-    plan: &'a [u8],
-    places: &[usize; 20],
-    entries: usize,
-) -> Step
-    requires handed_back { HandedBack ledger }
-    requires plan_said { PlanSaid (lent_plan plan.now) plan.now places.now (PlanRead entries) }
-    ensures { result ≡ year_call ledger piece.now plan.now }
-{
-    let reckoned = give_years(piece, 0, ledger, 1, plan, places, entries);
-    let answer = reckoned.answer;
-    let given = reckoned.ledger;
-    match answer {
-        StepAnswer::Refused(n) => Step {
-            ledger,
-            answer: Answer::Refused(n),
-        },
-        StepAnswer::Next(next) => {
-            let fault = cursor::end_of_piece(piece, next);
-            if fault != 0 {
-                return Step {
-                    ledger,
-                    answer: Answer::Refused(fault),
-                };
-            }
-            Step {
-                ledger: given,
-                answer: Answer::Accepted,
-            }
+    /// Takes the next so many years of the bytes, one after the other, by the terms of a ledger and under a plan. Where one is refused, those before it
+    /// are taken.
+    fn give<'a>(
+        &mut self,
+        count: u64,
+        terms: &Terms,
+        plan: &Plan<'a>,
+        reader: &mut Reader<'a>,
+    ) -> Result<(), Refusal>
+        requires room { self.old.given + self.old.state.left ≤ 20 }
+        ensures { says (λ _. ledger_with terms.now self.new) result reader.new ≡ give_years plan.now count (ledger_with terms.now self.old) reader.old }
+    {
+        let mut tables = FactorTables::none();
+        tables.take_terms(terms);
+        for _ in 0..count {
+            let advanced = reckoning::step(reader, plan, terms, &self.state, &tables)?;
+            self.figures[self.given as usize] = advanced.figures;
+            self.state = advanced.state;
+            self.given += 1;
         }
+        Ok(())
     }
 }
 
 impl Ledger {
-    // Opened from HD to DA, or to MP under Option 2; an empty ledger where that is refused.
+    /// With no year given.
+    #[tactic(auto, unfolding(crate::specs::Ledger::new_ledger))]
+    fn new(opened: Opened) -> Ledger
+        requires handed_back { HandedBack (new_ledger opened.terms opened.state) }
+        ensures { result ≡ new_ledger opened.terms opened.state }
+    {
+        Ledger {
+            terms: opened.terms,
+            years: Years::none(opened.state),
+        }
+    }
+
+    /// All zeros, as a refused opening hands it back.
+    #[tactic(auto, unfolding(crate::specs::Ledger::new_ledger, crate::specs::Ledger::empty_ledger, dossier::specs::Records::empty_terms, dossier::specs::Records::empty_state))]
+    fn empty() -> Ledger
+        ensures { result ≡ empty_ledger }
+    {
+        Ledger::new(Opened {
+            terms: Terms::none(),
+            state: State::none(),
+        })
+    }
+
+    /// Of an opening piece.
+    #[tactic(auto, unfolding(crate::specs::Parts::opened_piece, dossier::specs::Reader::followed, dossier::specs::Reader::give))]
+    fn of_piece(piece: &[u8]) -> Result<Ledger, Refusal>
+        ensures { step_made empty_ledger result ≡ step_judged empty_ledger (opened_piece piece.now) }
+    {
+        let opened = opening::read_piece(piece)?;
+        Ok(Ledger::new(opened))
+    }
+
+    /// Given the one year of a piece, under the plan that is lent.
+    #[tactic(auto, unfolding(crate::specs::Parts::given_piece, dossier::specs::JudgingPlan::under, dossier::specs::Reader::followed, dossier::specs::Reader::give))]
+    fn with_piece<'a>(self, piece: &'a [u8], plan: &'a [u8]) -> Result<Ledger, Refusal>
+        ensures { step_made self result ≡ step_judged self (under plan.now (given_piece self) piece.now) }
+    {
+        let plan = Plan::read(plan)?;
+        let mut reader = Reader::new(piece);
+        let mut years = self.years;
+        years.give(1, &self.terms, &plan, &mut reader)?;
+        reader.end_of_piece()?;
+        Ok(Ledger {
+            terms: self.terms,
+            years,
+        })
+    }
+
+    /// Opened from a dossier and given all its years, under the plan that is lent.
+    #[tactic(auto, unfolding(crate::specs::Parts::given_dossier, crate::specs::Ledger::new_ledger, dossier::specs::JudgingPlan::under, dossier::specs::Reader::followed, dossier::specs::Reader::give))]
+    fn read<'a>(dossier: &'a [u8], plan: &'a [u8]) -> Result<Ledger, Refusal>
+        ensures { step_made empty_ledger result ≡ step_judged empty_ledger (under plan.now given_dossier dossier.now) }
+    {
+        let plan = Plan::read(plan)?;
+        let mut reader = Reader::new(dossier);
+        let Opened { terms, state } = opening::read_opening(&mut reader)?;
+        let mut years = Years::none(state);
+        years.give(state.left, &terms, &plan, &mut reader)?;
+        years::read_end(&mut reader)?;
+        Ok(Ledger { terms, years })
+    }
+
+    /// Writes the report of the years given so far, and after it the tonnes issued at each period end of a list. A list that is not sound is refused, and
+    /// then a buffer that is too short.
+    #[tactic(auto, unfolding(crate::specs::Calls::periods_answer, crate::specs::Calls::periods_buffer))]
+    fn write(self, ends: &[u16], buffer: &mut [u8]) -> Result<(), Refusal>
+        ensures answer { answer_of result ≡ periods_answer self ends.now (length buffer.old) }
+        ensures buffer { buffer.new ≡ periods_buffer self ends.now buffer.old }
+    {
+        let first = self.first_year();
+        let given = self.years();
+        if !periods::sound(ends, first, given) {
+            return Err(Refusal::PeriodEndsWrong);
+        }
+        let length = 64 * (given as usize) + 32;
+        if buffer.len() < length + 8 * ends.len() {
+            return Err(Refusal::BufferTooShort);
+        }
+        let all = self.years.figures;
+        let figures = &all[..given as usize];
+        let state = self.years.state;
+        let project = state.project;
+        let belt = state.belt;
+        report::write_report(figures, state.total, project.balance, belt.balance, buffer);
+        periods::write_issued(figures, first, ends, buffer, length);
+        Ok(())
+    }
+
+    /// Opens a ledger with a piece from HD to DA, or to MP under Option 2; an empty ledger where that is refused.
+    #[tactic(auto, using(crate::proofs::CallLaws::open_is))]
     pub fn open(piece: &[u8]) -> Step
-        ensures value { result ≡ open_call piece.now }
-        ensures handed_back { HandedBack result.ledger }
+        ensures { step_of result ≡ open_call piece.now }
     {
-        let opened = opening::read_piece(piece);
-        let answer = opened.answer;
-        let terms = opened.terms;
-        let state = opened.state;
-        match answer {
-            OpeningAnswer::Refused(n) => refused_opening(n),
-            OpeningAnswer::Read(_) => Step {
-                ledger: new_ledger(terms, state),
-                answer: Answer::Accepted,
-            },
-        }
+        Step::of(Ledger::of_piece(piece), Ledger::empty())
     }
 
-    // Given one year, YR to its last activity record or PL, under the plan that is lent; the same ledger where that is refused.
-    pub fn year<'a>(self, piece: &'a [u8], plan: &'a [u8]) -> Step
-        requires { HandedBack self }
-        ensures value { result ≡ year_call self piece.now plan.now }
-        ensures handed_back { HandedBack result.ledger }
+    /// Gives one year, YR to its last activity record or PL, under the plan that is lent; the same ledger where that is refused.
+    #[tactic(auto, using(crate::proofs::CallLaws::year_is))]
+    pub fn year(self, piece: &[u8], plan: &[u8]) -> Step
+        ensures { step_of result ≡ year_call self piece.now plan.now }
     {
-        let mut places = [0usize; 20];
-        match plans::read_plan(plan, &mut places) {
-            PlanAnswer::Refused(n) => Step {
-                ledger: self,
-                answer: Answer::Refused(n),
-            },
-            PlanAnswer::Read(entries) => give_piece(self, piece, plan, &places, entries),
-        }
+        Step::of(self.with_piece(piece, plan), self)
     }
 
-    // The report of the years given so far, written where the buffer is long enough.
-    pub fn close(self, res: &mut [u8]) -> Step
-        requires { HandedBack self }
-        ensures value { result ≡ close_call self (length res.old) }
-        ensures res_after { res.new ≡ closed_buffer self res.old }
-        ensures handed_back { HandedBack result.ledger }
+    /// Writes the report of the years given so far where the buffer is long enough; the same ledger.
+    #[tactic(auto, unfolding(crate::specs::Calls::close_call))]
+    pub fn close(self, buffer: &mut [u8]) -> Step
+        ensures step { step_of result ≡ close_call self (length buffer.old) }
+        ensures buffer { buffer.new ≡ closed_buffer self buffer.old }
     {
-        let none = [0u16; 1];
-        let n = write_ledger(self, &none[..0], res);
-        if n != 0 {
-            return Step {
-                ledger: self,
-                answer: Answer::Refused(n),
-            };
-        }
         Step {
             ledger: self,
-            answer: Answer::Accepted,
+            answer: self.write(&[], buffer),
         }
     }
 
-    // The number of years given so far.
+    /// The number of years given so far, at most 20.
     pub fn years(self) -> u64
-        ensures { result ≡ self.given }
+        ensures value { result ≡ self.given }
+        ensures few { result ≤ 20 }
+        ensures handed_back { HandedBack self }
     {
-        self.given
+        self.years.given
     }
 
-    // The first of its years.
+    /// The first of its years.
     pub fn first_year(self) -> u64
-        requires { HandedBack self }
-        ensures { result ≡ first_year self }
+        ensures value { result ≡ first_year self }
+        ensures small { result < 65_536 }
+        ensures handed_back { HandedBack self }
     {
-        let state = self.state;
-        state.year - self.given
+        let given = self.years.given;
+        let state = self.years.state;
+        state.year - given
     }
 
-    // Opened from a dossier and given all its years, under the plan that is lent; an empty ledger where plan or dossier is refused.
-    pub fn of_dossier<'a>(dossier: &'a [u8], plan: &'a [u8]) -> Step
-        ensures value { result ≡ dossier_call dossier.now plan.now }
-        ensures handed_back { HandedBack result.ledger }
+    /// Opens a ledger with a whole dossier and gives it all its years, under the plan that is lent; an empty ledger where plan or dossier is refused.
+    #[tactic(auto, using(crate::proofs::CallLaws::dossier_is))]
+    pub fn of_dossier(dossier: &[u8], plan: &[u8]) -> Step
+        ensures { step_of result ≡ dossier_call dossier.now plan.now }
     {
-        let mut places = [0usize; 20];
-        match plans::read_plan(plan, &mut places) {
-            PlanAnswer::Refused(n) => refused_opening(n),
-            PlanAnswer::Read(entries) => give_dossier(dossier, plan, &places, entries),
-        }
+        Step::of(Ledger::read(dossier, plan), Ledger::empty())
     }
 }
 
-// The whole reckoning of a dossier, under a plan or none, with a list of period ends or none: its number, 0 where it is accepted.
-// Then the report stands in the buffer, and after it the tonnes issued at each end.
-pub fn reckon<'a>(dossier: &'a [u8], plan: &'a [u8], ends: &[u16], res: &mut [u8]) -> u8
-    ensures value { result ≡ reckon_number dossier.now plan.now ends.now (length res.old) }
-    ensures res_after { res.new ≡ reckon_buffer dossier.now plan.now ends.now res.old }
+/// The whole reckoning of a dossier, under a plan or none, with a list of period ends or none. Where it is accepted, the report stands in the buffer, and
+/// after it the tonnes issued at each end.
+#[tactic(auto, using(crate::proofs::CallLaws::dossier_is), unfolding(crate::specs::Calls::reckon_says, crate::specs::Calls::reckon_buffer))]
+pub fn reckon(dossier: &[u8], plan: &[u8], ends: &[u16], buffer: &mut [u8]) -> Result<(), Refusal>
+    ensures number { answer_number (answer_of result) ≡ reckon_number dossier.now plan.now ends.now (length buffer.old) }
+    ensures buffer { buffer.new ≡ reckon_buffer dossier.now plan.now ends.now buffer.old }
 {
-    let made = Ledger::of_dossier(dossier, plan);
-    let answer = made.answer;
-    let ledger = made.ledger;
+    let ledger = Ledger::read(dossier, plan)?;
+    ledger.write(ends, buffer)
+}
+
+/// The number of an answer, by which a host knows it: 0, or that of the refusal.
+pub fn number(answer: Result<(), Refusal>) -> u8
+    ensures { result ≡ answer_number (answer_of answer) }
+{
     match answer {
-        Answer::Refused(n) => n,
-        Answer::Accepted => write_ledger(ledger, ends, res),
+        Ok(()) => 0,
+        Err(refusal) => refusal.number(),
     }
 }

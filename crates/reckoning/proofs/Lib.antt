@@ -1,2 +1,1 @@
-pub mod AdvanceLaws
 pub mod StepLaws

@@ -1,50 +1,29 @@
--- A step over the bytes, in terms of the year that was read.
+-- A step in terms of the year that was read.
 -- Assumes nothing.
 use mathlib.Core.Path.{◌≡◌, refl, ◌∙◌, ap}
-use mathlib.Core.Bool.{Bool, true, false, cond}
+use mathlib.Core.Bool.{Bool, true, false}
 use mathlib.Core.Option.{Option}
 use mathlib.Core.List.{List}
-use Prim.Native.Nat.{ℕ, ◌≤◌, ◌<◌}
-use lib.ListN.{length, drop}
+use Prim.Native.Nat.{ℕ, ◌<◌}
 use Rattle.arithmetic.proofs.SumLaws.{sum2_cong}
 use Rattle.classes.specs.Classes.{classes, emission_factor}
 use Rattle.classes.specs.Matrix.{entry, table_of}
 use Rattle.classes.proofs.MatrixLaws.{entry-table_of}
 use Rattle.projection.specs.declared.Region.{Region}
 use Rattle.projection.specs.Projection.{projected_carbon}
-use Rattle.activity.specs.declared.Activity.{Activity}
 use Rattle.figures.specs.declared.Terms.{Terms}
 use Rattle.figures.specs.declared.State.{State}
 use Rattle.figures.specs.Year.{Year}
 use Rattle.figures.specs.Figures.{monitored_carbon, counted_factor}
 use Rattle.figures.specs.Reckoning.{region_reference, table_emissions, year_figures, after_year}
-use Rattle.dossier.specs.Reader.{Judged, refused, accepted, after, ◌>>=◌, ◌>>◌, give, holds}
+use Rattle.dossier.specs.Reader.{Judged, refused, accepted, after, ◌>>◌, give, holds, followed}
 use Rattle.dossier.specs.Causes.{planned_year_wrong}
 use Rattle.dossier.specs.Plan.{Plan, records_for}
 use Rattle.dossier.specs.Records.{figures_for}
 use Rattle.dossier.specs.Judging.{year_left, allowed, year}
-use Rattle.dossier.proofs.ReaderLaws.{bind-yes}
 use Rattle.years.specs.Answers.{Summary, summary, summarized_year}
 use Rattle.reckoning.specs.declared.Advanced.{Advanced}
-use Rattle.reckoning.specs.declared.StepAnswer.{StepAnswer}
-use Rattle.reckoning.specs.Step.{advanced_figures, carbon_advanced, summary_advanced, stepped_year, step_judged, StepInside}
-
--- ---- a year that was read and reckoned: its answer, and where what follows begins
-answered : (s : List ℕ) (b : Bool) (a : Advanced) (next : ℕ) (answer : StepAnswer) → answer ≡ cond b (StepAnswer.Next next) (StepAnswer.Refused 13) → next ≤ length s
-    → (step_judged s (record { answer = answer; advanced = a }) answer ≡ (holds planned_year_wrong b >> give a) (drop next s)) × StepInside s answer
-unfolding holds give ◌>>◌
-answered s true a next answer e inside = rw e (refl, inside)
-answered s false a next answer e inside = rw e (refl, tt)
-
-pub step-made : (factor counted : ℕ → ℕ → ℕ) (matrix : List ℕ) (from_plan : Option (List Activity)) (start beltstart : ℕ) (state : State) (u s : List ℕ) (m : Summary) (next : ℕ)
-    (a : Advanced) (answer : StepAnswer) → accepted m (drop next s) ≡ summarized_year counted from_plan state.year state.left start beltstart u
-    → a ≡ summary_advanced factor matrix m state → answer ≡ cond (allowed m.planned a.figures) (StepAnswer.Next next) (StepAnswer.Refused 13) → next ≤ length s
-    → (step_judged s (record { answer = answer; advanced = a }) answer ≡ stepped_year factor counted matrix from_plan start beltstart state u) × StepInside s answer
-unfolding stepped_year
-step-made factor counted matrix from_plan start beltstart state u s m next a answer says made judged inside =
-    let (says-answer, answer-inside) = answered s (allowed m.planned a.figures) a next answer judged inside in
-    let same = ap (λ (x : Advanced). (holds planned_year_wrong (allowed m.planned x.figures) >> give x) (drop next s)) made in
-    (says-answer ∙ same ∙ bind-yes (summarized_year counted from_plan state.year state.left start beltstart) _ u m (drop next s) says, answer-inside)
+use Rattle.reckoning.specs.Step.{advanced_figures, carbon_advanced, summary_advanced, stepped_year}
 
 -- ---- by the tables of the terms, a step is the year's own reckoning
 -- what a year makes
@@ -103,12 +82,12 @@ module _ (t : Terms) (factors counted : List ℕ) (ef : factors ≡ table_of (em
       → after (after j (λ y. give (summary (entry counted) y)))
       (λ m. holds planned_year_wrong (allowed m.planned (summary_advanced (entry factors) t.matrix m state).figures) >> give (summary_advanced (entry factors) t.matrix m state))
       ≡ after (after j (λ y. holds planned_year_wrong (allowed y.planned (figures_for (record { terms = t; state = state; plan = plan }) y)) >> give y)) (λ y. give (year_advanced t y state))
-  unfolding give ◌>>◌
+  unfolding give followed
   joined plan state (refused n) = refl
   joined plan state (accepted y v) = same plan state y v ∙ made plan state (allowed y.planned (figures_for (record { terms = t; state = state; plan = plan }) y)) y v
 
   pub step_is : (plan : Option Plan) (state : State) (u : List ℕ)
       → stepped_year (entry factors) (entry counted) t.matrix (records_for plan state.year) t.start.0 t.beltstart.0 state u
       ≡ after (year (record { terms = t; state = state; plan = plan }) u) (λ y. give (year_advanced t y state))
-  unfolding stepped_year summarized_year year give ◌>>=◌ ◌>>◌
+  unfolding stepped_year summarized_year year give followed
   step_is plan state u = joined plan state (year_left (records_for plan state.year) state.year state.left t.start.0 t.beltstart.0 u)

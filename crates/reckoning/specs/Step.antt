@@ -1,26 +1,21 @@
 -- One year's reckoning over the bytes, from a year's summary and by tables of factors.
 -- Serves contracts of inner functions and proofs; nothing here has to be believed. Assumes nothing.
-use Rattle.std.specs.Prelude.{ℕ, ◌≤◌, ◌<◌, List, length, drop}
+use Rattle.std.specs.Prelude.{ℕ, List}
 use Rattle.std.proofs.Math.Option.{Option}
-use Rattle.std.specs.Int.Signed.{mag}
-use Rattle.classes.specs.declared.CarbonUnits.{CarbonUnits}
-use Rattle.classes.specs.declared.Grams.{Grams}
-use Rattle.classes.specs.Ranges.{greatest_total}
+use Rattle.units.specs.declared.CarbonUnits.{CarbonUnits}
+use Rattle.units.specs.declared.Grams.{Grams}
 use Rattle.projection.specs.Projection.{projected_carbon}
-use Rattle.projection.specs.Ranges.{SmallRegion}
-use Rattle.activity.specs.declared.Activity.{Activity}
+use Rattle.activity.specs.Records.{Activity}
 use Rattle.figures.specs.declared.Figures.{Figures}
 use Rattle.figures.specs.declared.State.{State}
 use Rattle.figures.specs.declared.YearDays.{YearDays}
 use Rattle.figures.specs.Carbon.{carbon_figures}
 use Rattle.figures.specs.Reckoning.{after_figures}
-use Rattle.dossier.specs.Reader.{Judged, refused, accepted, Reader, ◌>>=◌, ◌>>◌, give, holds}
+use Rattle.dossier.specs.Reader.{Reader, ◌>>=◌, ◌>>◌, give, holds}
 use Rattle.dossier.specs.Causes.{planned_year_wrong}
 use Rattle.dossier.specs.Judging.{allowed}
 use Rattle.years.specs.Answers.{Summary, summarized_year}
 use Rattle.reckoning.specs.declared.Advanced.{Advanced}
-use Rattle.reckoning.specs.declared.StepAnswer.{StepAnswer}
-use Rattle.reckoning.specs.declared.Stepped.{Stepped}
 
 -- a year's figures, and what it makes, from the carbon of its tables and the emissions of its records
 unfoldable pub advanced_figures : (ℕ → ℕ → ℕ) → List ℕ → YearDays → (project belt : CarbonUnits) → Grams → State → Figures
@@ -44,23 +39,3 @@ stepped_year factor counted matrix from_plan start beltstart state = do
   m ← summarized_year counted from_plan state.year state.left start beltstart
   holds planned_year_wrong (allowed m.planned (summary_advanced factor matrix m state).figures)
   give (summary_advanced factor matrix m state)
-
--- ---- what a step answers
-abbrev pub step_judged : List ℕ → Stepped → StepAnswer → Judged Advanced
-step_judged s r (StepAnswer.Next next) = accepted r.advanced (drop next s)
-step_judged s r (StepAnswer.Refused n) = refused n
-
-abbrev pub step_says : List ℕ → Stepped → Judged Advanced
-step_says s r = step_judged s r r.answer
-
--- read: the next record begins inside
-abbrev pub StepInside : List ℕ → StepAnswer → Type 0
-StepInside s (StepAnswer.Next next) = next ≤ length s
-StepInside s (StepAnswer.Refused n) = Unit {0}
-
--- ranges in which every sum fits 64 bits, by the ladder of the crate classes
-pub record SmallState (state : State) : Type 0 where
-  pub year : state.year < 65_536
-  pub project : SmallRegion state.project
-  pub belt : SmallRegion state.belt
-  pub total : mag state.total.0 ≤ greatest_total

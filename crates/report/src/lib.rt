@@ -1,70 +1,57 @@
-// The report of a closing, written into the lent buffer.
+//! The report of a closing, written into the lent buffer.
 #![tactic(auto)]
 
-ghost use Rattle.std.specs.Prelude.{◌≡◌, [], ◌∷◌, ◌+◌, ◌*◌, ◌^◌, ◌≤◌, ◌<◌, length};
-ghost use Rattle.std.proofs.lemmas.List.Edits.{sets};
-ghost use Rattle.wire.specs.Signed.{figures_bytes, written};
-ghost use Rattle.report.specs.Report.{eight, reported};
+ghost use Rattle.std.specs.Prelude.{◌≡◌, ◌++◌, ◌+◌, ◌*◌, ◌^◌, ◌≤◌, ◌<◌, length};
+ghost use Rattle.wire.specs.Signed.{written};
+ghost use Rattle.report.specs.Report.{eight, eights, closing};
 
-use classes::{AreaUnits, Grams};
 use figures::Figures;
+use units::{AreaUnits, Grams};
 
-// Four figures, one after the other, from at.
-fn put_four(buffer: &mut [u8], at: usize, first: i64, second: i64, third: i64, fourth: i64)
-    requires { at + 32 ≤ length buffer.old }
-    ensures { buffer.new ≡ sets buffer.old at (figures_bytes (first ∷ second ∷ third ∷ fourth ∷ [])) }
+/// A year's figures in grams CO2e, in the order in which they are reported.
+fn eight(year: &Figures) -> [i64; 8]
+    ensures { result ≡ eight year.now }
 {
-    wire::put_figure(buffer, at, first);
-    wire::put_figure(buffer, at + 8, second);
-    wire::put_figure(buffer, at + 16, third);
-    wire::put_figure(buffer, at + 24, fourth);
+    [
+        year.reference.0,
+        year.project.0,
+        year.activity.0,
+        year.belt.0,
+        year.belt_reference.0,
+        year.displaced.0,
+        year.reduction.0,
+        year.credited.0,
+    ]
 }
 
-// The eight figures of a year from at.
-fn put_year(buffer: &mut [u8], at: usize, f: Figures)
-    requires { at + 64 ≤ length buffer.old }
-    ensures { buffer.new ≡ sets buffer.old at (figures_bytes (eight f)) }
+/// The numbers that close a report: the total in grams CO2e, its whole tonnes, and the balances of the project and the belt.
+#[tactic(auto, using(crate::proofs::Rulesets::numbers))]
+fn closing(total: Grams, project: AreaUnits, belt: AreaUnits) -> [i64; 4]
+    requires project_is_signed { project.0 < 2 ^ 63 }
+    requires belt_is_signed { belt.0 < 2 ^ 63 }
+    ensures { result ≡ closing total.0 project.0 belt.0 }
 {
-    put_four(
-        buffer,
-        at,
-        f.reference.0,
-        f.project.0,
-        f.activity.0,
-        f.belt.0,
-    );
-    put_four(
-        buffer,
-        at + 32,
-        f.belt_reference.0,
-        f.displaced.0,
-        f.reduction.0,
-        f.credited.0,
-    );
+    let tonnes = figures::tonnes(total) as i64;
+    [total.0, tonnes, project.0 as i64, belt.0 as i64]
 }
 
-// The numbers of k years, total, tonnes and balances, from the buffer's start; the bytes beyond keep their content.
-#[tactic(auto, using(crate::proofs::Rulesets::years), unfolding(crate::specs::Report::eights))]
+/// Writes the report from the buffer's start on: the figures of each year, then total, tonnes, and the balances of the project and the belt,
+/// as docs/DOSSIER.md, "The report", has them. The bytes beyond keep their content.
+#[tactic(auto, using(crate::proofs::Rulesets::parts), unfolding(crate::specs::Report::eights))]
 pub fn write_report(
-    figures: [Figures; 20],
-    k: u64,
+    figures: &[Figures],
     total: Grams,
     project: AreaUnits,
     belt: AreaUnits,
     buffer: &mut [u8],
 )
-    requires k_bound { (k ≤ 20) × (64 * k + 32 ≤ length buffer.old) }
-    requires project_bound { (project.0 < 2 ^ 63) × (belt.0 < 2 ^ 63) }
-    ensures { buffer.new ≡ written (reported k figures total.0 project.0 belt.0) buffer.old }
+    requires room { 64 * length figures.now + 32 ≤ length buffer.old }
+    requires project_is_signed { project.0 < 2 ^ 63 }
+    requires belt_is_signed { belt.0 < 2 ^ 63 }
+    ensures { buffer.new ≡ written (eights figures.now ++ closing total.0 project.0 belt.0) buffer.old }
 {
-    let years = k as usize;
-    let mut y: usize = 0;
-    while y < years {
-        let f = figures[y];
-        put_year(buffer, 64 * y, f);
-        y += 1;
+    for (y, year) in figures.iter().enumerate() {
+        wire::put_figures(buffer, 64 * y, &eight(year));
     }
-    let at = 64 * years;
-    let tonnes = figures::tonnes(total) as i64;
-    put_four(buffer, at, total.0, tonnes, project.0 as i64, belt.0 as i64);
+    wire::put_figures(buffer, 64 * figures.len(), &closing(total, project, belt));
 }

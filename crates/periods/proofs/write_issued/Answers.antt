@@ -1,54 +1,33 @@
-use Rattle.std.proofs.Common.{◌≡◌, ℕ, ◌+◌, ◌-◌, ◌<◌, ◌^◌, ℤ, pos, List, [], ◌∷◌, ◌++◌, length, get_or, ap, sym, ◌∙◌, arith, rules, length-append}
-use Rattle.std.proofs.lemmas.List.Edits.{sets}
-use borrow.Author.Rules.{sfits_of}
-use Rattle.classes.specs.declared.Grams.{Grams}
-use Rattle.figures.specs.declared.Figures.{Figures}
-use Rattle.wire.specs.Signed.{figures_bytes}
-use Rattle.periods.specs.Periods.{Inside, issued_now, issued_after}
-use Rattle.periods.specs.Ranges.{SmallYears, Kept, kept_at}
+use Rattle.std.proofs.Common.{◌+◌, ◌-◌, ◌^◌, ◌<◌, get_or, ◌∙◌, ap, pos, arith}
+use Rattle.std.proofs.lemmas.List.{take_all}
+use Rattle.periods.specs.Periods.{credited_in, issued_now, issued_tonnes}
+use Rattle.periods.specs.Ranges.{kept_at}
 use Rattle.periods.proofs.EndsLaws.{sound-inside}
-use Rattle.periods.proofs.RunningLaws.{kept_fits, totals-same}
-use Rattle.periods.proofs.IssuedLaws.{issued_fits, issued_turn, stored_turn, all-issued}
+use Rattle.periods.proofs.IssuedLaws.{count-issued, issued_turn, stored_turn}
 use Rattle.periods.proofs.write_issued.Goals as goal
-
--- the running total at an end, and all that is issued by then, stay within 63 bits
-issued_small : {k first before now : ℕ} {figures : List Figures} {totals : List Grams} (ends : List ℕ) (i : ℕ) → SmallYears k figures → Kept k figures totals
-    → Inside first k ends → i < length ends → pos now ≡ issued_now (pos before) (kept_at totals (get_or ends i 0 + 1 - first)) → before < 2 ^ 63
-    → before + now < 2 ^ 63
-issued_small {first = first} ends i small kept inside h e few =
-    let (later, early) = inside i h in
-    issued_fits _ _ _ e (kept_fits _ _ _ small kept (get_or ends i 0 + 1 - first) (omega arith)) few
-
-pub overflow_cast-tonnes : goal.overflow_cast-tonnes
-overflow_cast-tonnes c =
-    let inside = sound-inside _ _ _ c.requires.small_years.1 in
-    sfits_of (omega (arith, issued_small c.args.ends.now c.loop-i.i c.requires.small_years.0 c.running_totals-totals.ensures inside c.loop-i-test.true c.issued_now-tonnes.ensures c.loop-i.invariant.small))
-
-pub overflow_add-before : goal.overflow_add-before
-overflow_add-before c =
-    let inside = sound-inside _ _ _ c.requires.small_years.1 in
-    record { fits = omega (arith, issued_small c.args.ends.now c.loop-i.i c.requires.small_years.0 c.running_totals-totals.ensures inside c.loop-i-test.true c.issued_now-tonnes.ensures c.loop-i.invariant.small) }
 
 pub loop-i-preserved : goal.loop-i-preserved
 loop-i-preserved c =
-    let f = c.loop-i.invariant in
-    let issued = c.issued_now-tonnes in
-    let inside = sound-inside _ _ _ c.requires.small_years.1 in
-    let small = issued_small c.args.ends.now c.loop-i.i c.requires.small_years.0 c.running_totals-totals.ensures inside c.loop-i-test.true issued.ensures f.small in
+    let first = c.args.first in
+    let ends = c.args.ends.now in
+    let credited = credited_in c.args.figures.now in
+    let done = c.loop-i.invariant in
+    let now = c.issued_now-tonnes in
+    let (later, early) = sound-inside first _ ends c.requires.sound_ends c.loop-i.i c.loop-i-test.true in
+    let years = get_or ends c.loop-i.i 0 + 1 - first in
+    let total = ap (λ end. kept_at c.running_totals-totals.result (end + 1 - first)) c.from.ensures ∙ c.running_totals-totals.ensures.kept.at years (omega arith) in
+    let small = c.running_totals-totals.ensures.small years (omega arith) in
+    let all = issued_tonnes first credited ends in
+    let (taken, rest) = issued_turn _ ends c.loop-i.i _ _ all c.loop-i-test.true done.rest (now.ensures.value ∙ ap (issued_now (pos c.loop-i.before)) total) in
+    let issued : c.loop-i.before + now.result < 2 ^ 63 = omega (arith, small) in
     record {
-      within = search rules;
-      small = small;
-      long = search rules;
-      done = f.done ++ (pos issued.result ∷ []);
-      count = rw (length-append f.done (pos issued.result ∷ [])) (omega (arith, f.count));
-      rest = issued_turn _ _ _ _ _ _ f.done c.loop-i-test.true f.rest issued.ensures;
-      content = stored_turn f.done _ _ _ _ _ _ f.content (omega (arith, small)) (omega (arith, f.count)) c.put_figure.ensures;
+      issued = issued;
+      stored = stored_turn all c.loop-i.i now.result _ _ _ _ (omega (arith, count-issued first credited ends)) done.stored (omega (arith, issued)) taken c.put_figure.ensures;
+      rest = rest;
     }
 
 pub returns : goal.returns
 returns c =
-    let given = c.args in
-    let f = c.loop-i.invariant in
-    let done = all-issued _ given.ends.now c.loop-i.i _ _ f.done (omega arith) f.rest in
-    let same = totals-same given.first given.k _ _ c.running_totals-totals.ensures.at given.ends.now (sound-inside _ _ _ c.requires.small_years.1) in
-    f.content ∙ ap (λ (zs : List ℤ). sets given.buffer.now given.at (figures_bytes zs)) (sym done ∙ ap (issued_after (pos 0)) same)
+    let credited = credited_in c.args.figures.now in
+    let all = issued_tonnes c.args.first credited c.args.ends.now in
+    rw (take_all c.loop-i.i all (omega (arith, count-issued c.args.first credited c.args.ends.now))) at c.loop-i.invariant.stored

@@ -1,7 +1,9 @@
 -- A ledger that the calls handed back has no more years than the year that is due.
+use mathlib.Core.Path.{ap}
 use native.Mathlib.Omega.{arith}
+use Rattle.figures.specs.declared.State.{State}
 use Rattle.reckoner.proofs.Invariant.{handed-kept}
 use Rattle.reckoner.proofs.Ledger.first_year.Goals as goal
 
 pub overflow_sub-result : goal.overflow_sub-result
-overflow_sub-result c = omega (arith, (handed-kept c.requires).since)
+overflow_sub-result c = omega (arith, (handed-kept c.self.invariant).since, ap (λ (s : State). s.year) c.state.view_is)
