@@ -1,2 +1,1 @@
-pub mod LentLaws
-pub mod FilledLaws
+pub mod Rulesets

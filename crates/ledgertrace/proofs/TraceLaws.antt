@@ -1,21 +1,15 @@
--- A ledger has at most 20 years, and an accepted closing wrote the figures that are printed.
+-- An accepted closing wrote the figures that are printed.
 -- Assumes nothing.
-use Prim.Native.Nat.{ℕ, ◌+◌, ◌*◌, ◌≤◌}
-use mathlib.Core.Path.{◌≡◌}
-use mathlib.Core.List.{[]}
-use native.Mathlib.Omega.{arith}
-use Rattle.reckoner.specs.declared.Ledger.{Ledger}
-use Rattle.reckoner.specs.declared.Answer.{Answer}
-use Rattle.reckoner.specs.declared.Step.{Step}
-use Rattle.reckoner.specs.Calls.{periods_answer, close_call, HandedBack}
+use Rattle.std.proofs.Common.{◌≡◌, ℕ, ◌+◌, ◌*◌, ◌≤◌, [], Ok, ap, ◌∙◌, sym}
+use Rattle.reckoner.specs.Ledger.{Ledger}
+use Rattle.reckoner.specs.declared.Step.{Step as StepFields}
+use Rattle.reckoner.specs.Calls.{Answer, Step, periods_answer, close_call}
+use Rattle.reckoner.specs.Said.{answer_of, step_of}
 use Rattle.reckoner.proofs.CloseLaws.{close-zero}
-use Rattle.reckoner.proofs.Invariant.{handed-kept}
 
-pub at_most-twenty : {l : Ledger} → HandedBack l → l.given ≤ 20
-at_most-twenty h = let k = handed-kept h in omega (arith, k.count)
-
-pub closed_fits : (l : Ledger) (size : ℕ) (r : Step) → r ≡ close_call l size → r.answer ≡ Answer.Accepted → 64 * l.given + 32 ≤ size
+pub closed_fits : (l : Ledger) (size : ℕ) (step : StepFields) → step_of step ≡ close_call l size → step.answer ≡ Ok tt → 64 * step.ledger.given + 32 ≤ size
 unfolding close_call
-closed_fits l size r h e =
-    let closed : periods_answer l [] size ≡ Answer.Accepted = rw h at e in
-    (close-zero l size).0 (rw closed)
+closed_fits l size step h e =
+    let same : step.ledger ≡ l = ap (λ (x : Step). x.ledger) h in
+    let closed : periods_answer l [] size ≡ Answer.Accepted = sym (ap (λ (x : Step). x.answer) h) ∙ ap answer_of e in
+    rw same ((close-zero l size).0 (rw closed))

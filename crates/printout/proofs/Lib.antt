@@ -1,2 +1,3 @@
 pub mod PrintoutLaws
 pub mod LongInputs
+pub mod Rulesets

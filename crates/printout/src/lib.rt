@@ -1,32 +1,31 @@
-// What `yearsheet` prints for the bytes it is handed.
+//! What `yearsheet` prints for the bytes it is handed.
 #![tactic(auto)]
 
-ghost use Rattle.sheet.specs.Written.{Written};
-ghost use Rattle.reckoner.specs.Calls.{HandedBack};
+ghost use Rattle.std.specs.Prelude.{◌≡◌};
 ghost use Rattle.printout.specs.Printout.{printout};
 ghost use Rattle.printout.specs.LedgerSheet.{ledger_sheet};
 
-use reckoner::{Answer, Ledger};
+use reckoner::{Ledger, Step};
+use sheet::Text;
 
 // The sheet of a ledger, from its report in a buffer for 20 years.
-fn write_ledger_sheet(ledger: Ledger, out: &mut [u8; 4096]) -> usize
-    requires { HandedBack ledger }
-    ensures { Written (ledger_sheet ledger) out.old result out.new }
+#[tactic(auto, unfolding(crate::specs::LedgerSheet::ledger_sheet))]
+fn ledger_sheet(ledger: Ledger) -> Text
+    ensures { result.bytes ≡ ledger_sheet ledger }
 {
-    let mut result = [0u8; 1312];
-    ledger.close(&mut result);
-    sheet::write_sheet(ledger.first_year() as u16, ledger.years(), &result, out)
+    let mut report = [0u8; 1312];
+    ledger.close(&mut report);
+    sheet::sheet_of(ledger.first_year() as u16, ledger.years(), &report)
 }
 
-// The sheet of a dossier, with no plan lent, or the line of its refusal; the number of bytes written. The bytes beyond keep their content.
-pub fn write_printout(dossier: &[u8], out: &mut [u8; 4096]) -> usize
-    ensures { Written (printout dossier.now) out.old result out.new }
+/// The sheet of a dossier, with no plan lent, or the line of its refusal.
+#[tactic(auto, using(crate::proofs::Rulesets::printed))]
+pub fn printout_of(dossier: &[u8]) -> Text
+    ensures { result.bytes ≡ printout dossier.now }
 {
-    let made = Ledger::of_dossier(dossier, &dossier[..0]);
-    let answer = made.answer;
-    let ledger = made.ledger;
+    let Step { ledger, answer } = Ledger::of_dossier(dossier, b"");
     match answer {
-        Answer::Refused(n) => sheet::write_refusal(n, out),
-        Answer::Accepted => write_ledger_sheet(ledger, out),
+        Err(refusal) => sheet::refusal_of(refusal.number()),
+        Ok(()) => ledger_sheet(ledger),
     }
 }

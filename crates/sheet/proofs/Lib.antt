@@ -1,5 +1,3 @@
-pub mod DecimalLaws
 pub mod Examples
-pub mod PutLaws
 pub mod SheetLaws
 pub mod Rulesets

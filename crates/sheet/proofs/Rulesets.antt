@@ -1,13 +1,13 @@
 -- What the functions of this crate use, for their attributes.
 -- Assumes nothing.
-use Rattle.sheet.proofs.DecimalLaws.{decimal_one, length_more}
-use Rattle.sheet.proofs.SheetLaws.{length-spaced, figure-above}
+use Rattle.std.proofs.Common.{append-nil, append_assoc, length-append}
+use Rattle.sheet.proofs.SheetLaws.{cast_signed-signed, spaced-last, lines-last}
 
--- how long a part of a line is
-pub ruleset lengths = (length-spaced)
+-- the figure that 64 bits say
+pub ruleset signed_figures = (cast_signed-signed)
 
--- the figures of a number, and how many there are
-pub ruleset decimals = (decimal_one, length_more)
+-- one figure more after those of a report
+pub ruleset figures = (append-nil, append_assoc, length-append, spaced-last)
 
--- a figure that is not negative
-pub ruleset positive_figures = (figure-above)
+-- one line more after those of a sheet
+pub ruleset lines = (append-nil, append_assoc, length-append, lines-last)

@@ -1,9 +1,9 @@
 -- Document 01, "Calls and sheet": the lines of `yearsheet`. "Each line ends with a line feed."
 -- To be believed. Assumes nothing.
 use Rattle.std.specs.Prelude.{ℕ, zero, suc, ◌+◌, ◌*◌, List, [], ◌++◌}
+use Rattle.std.specs.Fmt.{decimal, signed_decimal}
 use Rattle.wire.specs.Signed.{figure_at}
 use Rattle.sheet.specs.Ascii.{ascii}
-use Rattle.sheet.specs.Decimal.{decimal, decimal_of}
 
 unfoldable pub header : List ℕ
 header = ascii "year reference project activity belt belt-reference displaced reduction credited\n"
@@ -11,7 +11,7 @@ header = ascii "year reference project activity belt belt-reference displaced re
 -- k figures of a result buffer from a place on, each after a space
 unfoldable pub spaced : (k : ℕ) (result : List ℕ) (at : ℕ) → List ℕ
 spaced zero result at = []
-spaced (suc k) result at = ascii " " ++ (decimal_of (figure_at result at) ++ spaced k result (at + 8))
+spaced (suc k) result at = ascii " " ++ (signed_decimal (figure_at result at) ++ spaced k result (at + 8))
 
 -- the line of a year: the year and its eight figures
 unfoldable pub year_line : (year : ℕ) (result : List ℕ) (at : ℕ) → List ℕ

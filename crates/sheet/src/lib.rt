@@ -1,162 +1,118 @@
-// The sheet of a reckoning as text, made from the result buffer into a lent output.
+//! The texts of a reckoning, made from its report: none needs the heap, and none can fail.
 #![tactic(auto)]
 
-ghost use Rattle.std.specs.Prelude.{◌+◌, ◌*◌, ◌≤◌, [], ◌∷◌, length};
-ghost use Rattle.wire.specs.Signed.{signed};
-ghost use Rattle.sheet.specs.Decimal.{decimal, decimal_of};
-ghost use Rattle.sheet.specs.Put.{Put};
-ghost use Rattle.sheet.specs.Written.{Written};
-ghost use Rattle.sheet.specs.CallLine.{call_line};
+ghost use Rattle.std.specs.Prelude.{◌≡◌, ◌+◌, ◌*◌, ◌≤◌, ◌++◌, length};
+ghost use Rattle.arrayvec.specs.ArrayString.{array_string_len};
+ghost use Rattle.wire.specs.Signed.{figure_at};
+ghost use Rattle.sheet.specs.CallLine.{numbers_line};
 ghost use Rattle.sheet.specs.Sheet.{spaced, named, year_line, year_lines, total_line, sheet_of, refusal_of};
 
-// Each writer puts its text into the output at a place and answers the place after it. It asks for room for the longest text.
-fn put_byte(out: &mut [u8; 4096], at: usize, byte: u8) -> usize
-    requires { at + 1 ≤ 4096 }
-    ensures { Put out.old at (byte ∷ []) result out.new }
+use arrayvec::ArrayString;
+use itoa::Buffer;
+
+/// A text that lies in the value itself, with room for the longest: a sheet of 20 years has at most 3,966 bytes.
+pub type Text = ArrayString<4096>;
+
+// The figure that the eight bytes from a place say.
+#[tactic(auto, using(crate::proofs::Rulesets::signed_figures), unfolding(wire::specs::Signed::figure_at))]
+fn figure_at(report: &[u8], at: usize) -> i64
+    requires { at + 8 ≤ length report.now }
+    ensures { result ≡ figure_at report.now at }
 {
-    out[at] = byte;
-    at + 1
+    wire::field64(report, at).cast_signed()
 }
 
-fn put_text(out: &mut [u8], at: usize, text: &[u8]) -> usize
-    requires { at + length text.now ≤ length out.old }
-    ensures { Put out.old at text.now result out.new }
+// Each of these appends a text, and asks for room for the longest of its kind. `k` figures of a report from a place on, each after a space.
+#[tactic(auto, using(crate::proofs::Rulesets::figures), unfolding(crate::specs::Sheet::spaced))]
+fn push_figures(text: &mut Text, k: usize, report: &[u8], from: usize)
+    requires inside { from + 8 * k ≤ length report.now }
+    requires fits { array_string_len text.old + 21 * k ≤ 4096 }
+    ensures bytes { text.new.bytes ≡ text.old.bytes ++ spaced k report.now from }
+    ensures room { array_string_len text.new ≤ array_string_len text.old + 21 * k }
 {
-    let mut i = 0;
-    while i < text.len() {
-        out[at + i] = text[i];
-        i += 1;
+    for i in 0..k {
+        text.push(' ');
+        text.push_str(Buffer::new().format(figure_at(report, from + 8 * i)));
     }
-    at + i
 }
 
-// A number in decimal figures.
-#[tactic(auto, using(crate::proofs::Rulesets::decimals))]
-fn put_decimal(out: &mut [u8; 4096], at: usize, n: u64) -> usize
-    requires { at + length (decimal n) ≤ 4096 }
-    ensures { Put out.old at (decimal n) result out.new }
-{
-    if n < 10 {
-        return put_byte(out, at, b'0' + n as u8);
-    }
-    let last = put_decimal(out, at, n / 10);
-    put_byte(out, last, b'0' + (n % 10) as u8)
-}
-
-// The figure that 64 bits say.
-#[tactic(auto, using(crate::proofs::Rulesets::positive_figures))]
-fn put_figure(out: &mut [u8; 4096], at: usize, bits: u64) -> usize
-    requires { at + 20 ≤ 4096 }
-    ensures { Put out.old at (decimal_of (signed bits)) result out.new }
-{
-    if bits < 9223372036854775808 {
-        return put_decimal(out, at, bits);
-    }
-    let after_minus = put_byte(out, at, b'-');
-    put_decimal(out, after_minus, 18446744073709551615 - bits + 1)
-}
-
-// The figures of a result buffer from a place on, each after a space.
-fn put_spaced(out: &mut [u8; 4096], at: usize, k: u64, res: &[u8], from: usize) -> usize
-    requires { (from + 8 * k ≤ length res.now) × (at + 21 * k ≤ 4096) }
-    ensures { Put out.old at (spaced k res.now from) result out.new }
-{
-    let mut left = k;
-    let mut place = at;
-    let mut source = from;
-    while left > 0 {
-        let after_space = put_byte(out, place, b' ');
-        let bits = wire::field64(res, source);
-        place = put_figure(out, after_space, bits);
-        source += 8;
-        left -= 1;
-    }
-    place
-}
-
+// The line of a year.
 #[tactic(auto, unfolding(crate::specs::Sheet::year_line))]
-fn put_year_line(out: &mut [u8; 4096], at: usize, year: u64, res: &[u8; 1312], from: usize) -> usize
-    requires { (from + 64 ≤ 1312) × (at + 189 ≤ 4096) }
-    ensures { Put out.old at (year_line year res.now from) result out.new }
+fn push_year(text: &mut Text, year: u64, report: &[u8], from: usize)
+    requires inside { from + 64 ≤ length report.now }
+    requires fits { array_string_len text.old + 189 ≤ 4096 }
+    ensures bytes { text.new.bytes ≡ text.old.bytes ++ year_line year report.now from }
+    ensures room { array_string_len text.new ≤ array_string_len text.old + 189 }
 {
-    let after_year = put_decimal(out, at, year);
-    let after_figures = put_spaced(out, after_year, 8, res, from);
-    put_byte(out, after_figures, b'\n')
-}
-
-// The lines of n years from the first on.
-fn put_year_lines(out: &mut [u8; 4096], at: usize, n: u64, first: u16, res: &[u8; 1312]) -> usize
-    requires { (n ≤ 20) × (at + 189 * n ≤ 4096) }
-    ensures { Put out.old at (year_lines n first res.now 0) result out.new }
-{
-    let mut left = n;
-    let mut place = at;
-    let mut year = first as u64;
-    let mut source = 0;
-    while left > 0 {
-        place = put_year_line(out, place, year, res, source);
-        year += 1;
-        source += 64;
-        left -= 1;
-    }
-    place
+    text.push_str(Buffer::new().format(year));
+    push_figures(text, 8, report, from);
+    text.push('\n');
 }
 
 // A word and the figures that it names.
 #[tactic(auto, unfolding(crate::specs::Sheet::named))]
-fn put_named(out: &mut [u8; 4096], at: usize, word: &[u8], k: u64, res: &[u8], from: usize) -> usize
-    requires { (from + 8 * k ≤ length res.now) × (at + length word.now + 21 * k ≤ 4096) }
-    ensures { Put out.old at (named word.now k res.now from) result out.new }
+fn push_named(text: &mut Text, word: &str, k: usize, report: &[u8], from: usize)
+    requires inside { from + 8 * k ≤ length report.now }
+    requires fits { array_string_len text.old + length word.now + 21 * k ≤ 4096 }
+    ensures bytes { text.new.bytes ≡ text.old.bytes ++ named word.now k report.now from }
+    ensures room { array_string_len text.new ≤ array_string_len text.old + length word.now + 21 * k }
 {
-    let after_word = put_text(out, at, word);
-    put_spaced(out, after_word, k, res, from)
+    text.push_str(word);
+    push_figures(text, k, report, from);
 }
 
-#[tactic(auto, using(crate::proofs::Rulesets::lengths), unfolding(crate::specs::Sheet::named, crate::specs::Sheet::total_line))]
-fn put_total_line(out: &mut [u8; 4096], at: usize, res: &[u8; 1312], from: usize) -> usize
-    requires { (from + 32 ≤ 1312) × (at + 105 ≤ 4096) }
-    ensures { Put out.old at (total_line res.now from) result out.new }
+// The line of totals.
+#[tactic(auto, unfolding(crate::specs::Sheet::named, crate::specs::Sheet::total_line))]
+fn push_totals(text: &mut Text, report: &[u8], from: usize)
+    requires inside { from + 32 ≤ length report.now }
+    requires fits { array_string_len text.old + 105 ≤ 4096 }
+    ensures { text.new.bytes ≡ text.old.bytes ++ total_line report.now from }
 {
-    let after_total = put_named(out, at, b"total", 1, res, from);
-    let after_tonnes = put_named(out, after_total, b" tonnes", 1, res, from + 8);
-    let after_balances = put_named(out, after_tonnes, b" balance", 2, res, from + 16);
-    put_byte(out, after_balances, b'\n')
+    push_named(text, "total", 1, report, from);
+    push_named(text, " tonnes", 1, report, from + 8);
+    push_named(text, " balance", 2, report, from + 16);
+    text.push('\n');
 }
 
-// The sheet of n years from the first on; the number of bytes written. The bytes beyond keep their content.
-#[tactic(auto, unfolding(crate::specs::Sheet::header, crate::specs::Sheet::sheet_of))]
-pub fn write_sheet(first: u16, n: u64, res: &[u8; 1312], out: &mut [u8; 4096]) -> usize
-    requires { n ≤ 20 }
-    ensures { Written (sheet_of first n res.now) out.old result out.new }
+/// The sheet of so many years from the first on, at most 20, from their report.
+#[tactic(auto, using(crate::proofs::Rulesets::lines), unfolding(crate::specs::Sheet::header, crate::specs::Sheet::year_lines, crate::specs::Sheet::sheet_of))]
+pub fn sheet_of(first: u16, years: u64, report: &[u8; 1312]) -> Text
+    requires { years ≤ 20 }
+    ensures { result.bytes ≡ sheet_of first years report.now }
 {
-    let after_header = put_text(
-        out,
-        0,
-        b"year reference project activity belt belt-reference displaced reduction credited\n",
+    let mut text = Text::new();
+    text.push_str(
+        "year reference project activity belt belt-reference displaced reduction credited\n",
     );
-    let after_years = put_year_lines(out, after_header, n, first, res);
-    put_total_line(out, after_years, res, (64 * n) as usize)
+    for i in 0..years {
+        push_year(&mut text, u64::from(first) + i, report, 64 * i as usize);
+    }
+    push_totals(&mut text, report, 64 * years as usize);
+    text
 }
 
-// The line of a refusal; the number of bytes written.
+/// The line of a refusal, which has its number.
 #[tactic(auto, unfolding(crate::specs::Sheet::refusal_of))]
-pub fn write_refusal(n: u8, out: &mut [u8; 4096]) -> usize
-    ensures { Written (refusal_of n) out.old result out.new }
+pub fn refusal_of(refusal: u8) -> Text
+    ensures { result.bytes ≡ refusal_of refusal }
 {
-    let after_word = put_text(out, 0, b"refused ");
-    let after_number = put_decimal(out, after_word, n as u64);
-    put_byte(out, after_number, b'\n')
+    let mut text = Text::new();
+    text.push_str("refused ");
+    text.push_str(Buffer::new().format(refusal));
+    text.push('\n');
+    text
 }
 
-// The line of a call, for testers: its word, its number and every whole figure of a part of a result; the number of bytes written.
-#[tactic(auto, unfolding(crate::specs::CallLine::call_line))]
-pub fn write_call(word: &[u8], n: u8, figures: &[u8], out: &mut [u8; 4096]) -> usize
-    requires { (length word.now ≤ 100) × (length figures.now ≤ 1472) }
-    ensures { Written (call_line word.now n figures.now) out.old result out.new }
+/// What follows the word in the line of a call, for testers: its number and every whole figure of a part of a report.
+#[tactic(auto, unfolding(crate::specs::CallLine::numbers_line))]
+pub fn numbers_line(number: u8, figures: &[u8]) -> Text
+    requires { length figures.now ≤ 1472 }
+    ensures { result.bytes ≡ numbers_line number figures.now }
 {
-    let after_word = put_text(out, 0, word);
-    let after_space = put_byte(out, after_word, b' ');
-    let after_number = put_decimal(out, after_space, n as u64);
-    let end = put_spaced(out, after_number, (figures.len() / 8) as u64, figures, 0);
-    put_byte(out, end, b'\n')
+    let mut text = Text::new();
+    text.push(' ');
+    text.push_str(Buffer::new().format(number));
+    push_figures(&mut text, figures.len() / 8, figures, 0);
+    text.push('\n');
+    text
 }

@@ -1,3 +1,1 @@
-pub mod ReadingLaws
-pub mod InputLaws
-pub mod WholeInput
+pub mod Inputs

@@ -1,20 +1,10 @@
-use mathlib.Core.Path.{◌∙◌, sym}
-use native.Mathlib.Omega.{arith}
-use borrow.Author.Tests.{eq-eqb, ne_eqb}
-use Rattle.console.proofs.FilledLaws.{filled-so_far, not-filled, filled_to-end}
+use Rattle.std.proofs.Common.{◌==◌, rules, tests}
+use Rattle.std.proofs.lemmas.Iterator.{YieldsList-from_slice}
+use Rattle.std.proofs.lemmas.Iterator.Adapters.{YieldsList-from_skip}
+use Rattle.std.proofs.lemmas.Iterator.Search.{all_from_yields_List}
 use Rattle.console.proofs.is_filled.Goals as goal
 
-pub returns-then-buffer-i : goal.returns-then-buffer-i
-returns-then-buffer-i c =
-    let buffer = c.args.buffer.now in
-    let i = c.loop-i.i in
-    sym (c.loop-i.invariant ∙ not-filled buffer i (omega arith) (ne_eqb _ _ c.if-buffer-i.true))
-
-pub loop-i-preserved : goal.loop-i-preserved
-loop-i-preserved c =
-    let buffer = c.args.buffer.now in
-    let i = c.loop-i.i in
-    c.loop-i.invariant ∙ filled-so_far buffer i (omega arith) (eq-eqb _ _ c.if-buffer-i.false)
-
 pub returns : goal.returns
-returns c = sym (c.loop-i.invariant ∙ filled_to-end c.args.buffer.now c.loop-i.i (omega arith))
+returns c =
+    let rest = YieldsList-from_skip {s = c.skip.result} c.args.from (YieldsList-from_slice c.args.buffer.now cc) c.skip.ensures.count in
+    all_from_yields_List (λ byte. byte == 165) _ _ _ c.all.ensures.ran rest (λ x b q k. search (rules, tests))

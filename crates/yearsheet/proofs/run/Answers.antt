@@ -1,5 +1,5 @@
 use Rattle.std.proofs.Common.{rules}
-use Rattle.yearsheet.proofs.WholeInput.{printed_whole}
+use Rattle.yearsheet.proofs.Inputs.{printed_whole}
 use Rattle.yearsheet.proofs.run.Goals as goal
 
 pub returns-clause-whole : goal.returns-clause-whole
