@@ -18,8 +18,7 @@ use Rattle.dossier.specs.Judging.{opening_piece, year_piece}
 use Rattle.dossier.specs.JudgingPlan.{under}
 use Rattle.dossier.proofs.Numbers.{opening-zero, year-zero}
 use Rattle.periods.specs.Periods.{EndsInRange}
-use Rattle.reckoner.specs.declared.Ledger.{Ledger}
-use Rattle.reckoner.specs.Ledger.{due_of}
+use Rattle.reckoner.specs.Ledger.{Ledger, due_of}
 use Rattle.reckoner.specs.Calls.{answer_number, open_judged, open_call, year_judged, year_call, HandedBack, reckon_number}
 use Rattle.promises.specs.Accepted.{BothWellFormed, AcceptedWhen}
 use Rattle.reckoner.proofs.Invariant.{handed-kept, due-kept}

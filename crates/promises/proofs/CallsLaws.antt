@@ -20,8 +20,7 @@ use Rattle.dossier.proofs.ReaderLaws.{no, was}
 use Rattle.dossier.proofs.CauseLaws.{positive}
 use Rattle.dossier.proofs.UnderLaws.{under-either, year_piece-under-causes}
 use Rattle.dossier.proofs.WellFormed.{year-accepted}
-use Rattle.reckoner.specs.declared.Ledger.{Ledger}
-use Rattle.reckoner.specs.Ledger.{due_of, given_year, given_years}
+use Rattle.reckoner.specs.Ledger.{Ledger, due_of, given_year, given_years}
 use Rattle.reckoner.specs.Calls.{answer_number, year_judged, year_call, close_call, HandedBack, given}
 use Rattle.reckoner.proofs.Invariant.{LedgerKept, due-kept, given-kept, YearsTaken}
 use Rattle.promises.specs.CallList.{Call, giving, closing, called, after_call, after_calls, LentBytes, judged_year, brought_year, accepted_years, standing_call, standing_calls}

@@ -11,18 +11,18 @@ use lib.ListN.{length, take, drop, get_or, length-append, get_or-append}
 use lib.Seq.{length-take-le, split_at, take_at, get_or-take, get_or-append-add}
 use Rattle.figures.specs.declared.Figures.{Figures}
 use Rattle.figures.specs.Figures.{tonnes_of, no_figures}
-use Rattle.figures.proofs.FiguresLaws.{FiguresSmall, tonnes-le}
+use Rattle.figures.specs.Ranges.{FiguresSmall}
+use Rattle.figures.proofs.FiguresLaws.{tonnes-le}
 use Rattle.wire.specs.Signed.{figures_bytes, written, figure_at}
 use Rattle.wire.proofs.SignedLaws.{length-figures, figures-append, written-figure}
 use Rattle.report.specs.Report.{eight, eights, closing, reported}
 use Rattle.report.proofs.ReportLaws.{length-years}
-use Rattle.reckoner.specs.declared.Ledger.{Ledger}
 use Rattle.periods.specs.Periods.{Inside, credited_in, issued_after, totals_at, issued_tonnes}
 use Rattle.periods.specs.Ranges.{SmallYears}
 use Rattle.periods.proofs.EndsLaws.{sound-inside}
 use Rattle.periods.proofs.RunningLaws.{running_fits}
 use Rattle.periods.proofs.IssuedLaws.{issued_now_lem, count-issued}
-use Rattle.reckoner.specs.Ledger.{first_year, report}
+use Rattle.reckoner.specs.Ledger.{Ledger, first_year, report}
 use Rattle.reckoner.specs.Calls.{periods_report, periods_buffer}
 use Rattle.reckoner.proofs.Invariant.{LedgerKept}
 use Rattle.reckoner.proofs.CloseLaws.{sound, years-small, report-count, buffer_is}

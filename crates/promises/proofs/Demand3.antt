@@ -28,8 +28,7 @@ use Rattle.periods.specs.Periods.{ends_sound, running_total}
 use Rattle.dossier.specs.Records.{Opening, OpeningInRange, terms_of, state_of, empty_terms, empty_state, Settled, settled}
 use Rattle.dossier.specs.Reader.{Judged, refused, accepted}
 use Rattle.dossier.specs.Judging.{opening_piece}
-use Rattle.reckoner.specs.declared.Ledger.{Ledger}
-use Rattle.reckoner.specs.Ledger.{new_ledger, empty_ledger, opened_ledger, given_years, report}
+use Rattle.reckoner.specs.Ledger.{Ledger, new_ledger, empty_ledger, opened_ledger, given_years, report}
 use Rattle.reckoner.specs.Calls.{open_judged, open_call, closed_buffer, opened}
 use Rattle.reckoner.proofs.RegionKept.{units-total}
 use Rattle.reckoner.proofs.Invariant.{LedgerKept, open-either, open_kept, in_use_rows, YearsTaken, years-kept}

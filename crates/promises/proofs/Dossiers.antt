@@ -25,10 +25,8 @@ use Rattle.dossier.proofs.Pieces.{YearPieces, years-given}
 use Rattle.dossier.proofs.DossierLaws.{room-opening}
 use Rattle.periods.specs.Periods.{EndsInRange, ends_sound, running_total}
 use Rattle.periods.proofs.EndsLaws.{ends-judged}
-use Rattle.reckoner.specs.declared.Ledger.{Ledger}
-use Rattle.reckoner.specs.declared.Answer.{Answer}
-use Rattle.reckoner.specs.Ledger.{new_ledger, opened_ledger, due_of, given_year, given_years, ledger_of, report}
-use Rattle.reckoner.specs.Calls.{open_call, periods_buffer, dossier_call, reckon_says, reckon_number, reckon_buffer}
+use Rattle.reckoner.specs.Ledger.{Ledger, new_ledger, opened_ledger, due_of, given_year, given_years, ledger_of, report}
+use Rattle.reckoner.specs.Calls.{Answer, open_call, periods_buffer, dossier_call, reckon_says, reckon_number, reckon_buffer}
 use Rattle.reckoner.proofs.Invariant.{LedgerKept, opened-kept, YearsTaken, years-kept, under_one}
 use Rattle.reckoner.proofs.CloseLaws.{sound}
 use Rattle.reckoner.proofs.Numbers.{given-all, first-is, sound-years, number-zero}

@@ -19,7 +19,7 @@ use Rattle.wire.specs.Signed.{twos_complement, figure_bytes, figures_bytes, writ
 use Rattle.dossier.specs.Records.{head_bytes, areas_bytes, bytes_if_any, opening_bytes, terms_of, state_of, first_due, next, conversions_bytes, records_bytes, year_bytes, dossier_bytes}
 use Rattle.dossier.specs.Plan.{records_for}
 use Rattle.dossier.specs.Layouts.{activity_bytes, fresh}
-use Rattle.dossier.specs.Reader.{◌>>=◌, ◌>>◌, give, mark, stands, upon, if_any, present, begin, field, fields, outside, within, equal, holds, nothing}
+use Rattle.dossier.specs.Reader.{followed, give, mark, stands, upon, if_any, present, begin, field, fields, outside, within, equal, holds, nothing}
 use Rattle.dossier.specs.JudgingRecords.{head, stocks_if_any, areas, matrix_under, conversions, in_range, fields_of, activity_mark, activity_under, activity}
 use Rattle.dossier.specs.Judging.{opening, another, run, activities, from_the_plan, taken, year_records, year_left, year, end, years, dossier}
 use Rattle.dossier.specs.JudgingPlan.{lent_plan, under}
@@ -27,7 +27,7 @@ use Rattle.report.specs.Report.{eights, reported}
 use Rattle.periods.specs.Periods.{ends_sound, issued_after}
 use Rattle.reckoner.specs.Ledger.{new_ledger, opened_ledger, due_of, given_year, given_years, ledger_of, report}
 use Rattle.reckoner.specs.Calls.{periods_answer, periods_buffer, dossier_call, reckon_buffer}
-use Rattle.sheet.specs.Decimal.{digits, decimal, decimal_of}
+use Rattle.std.specs.Fmt.{digits}
 use Rattle.sheet.specs.Sheet.{header, spaced, year_line, year_lines, named, total_line, sheet_of}
 use Rattle.printout.specs.Printout.{printout}
 use Rattle.promises.specs.Examples.{case_a, buffer_a, three_units, Example, examples}
@@ -36,7 +36,7 @@ pub examples_hold : map (λ (e : Example). e.given) examples ≡ map (λ (e : Ex
 unfolding examples case_a buffer_a three_units
     -- its bytes, and their judgement
     bytes bytes_of_each joined head_bytes areas_bytes bytes_if_any opening_bytes conversions_bytes activity_bytes year_bytes dossier_bytes
-    number numbers total ◌>>=◌ ◌>>◌ give mark stands upon if_any present begin field fields outside within equal nothing
+    number numbers total followed give mark stands upon if_any present begin field fields outside within equal nothing
     head stocks_if_any areas matrix_under conversions in_range fields_of activity_mark activity_under activity fresh
     opening another run activities from_the_plan taken year_records year_left year end years dossier lent_plan under holds records_for records_bytes
     -- classes, projection, activity records, figures
@@ -48,7 +48,7 @@ unfolding examples case_a buffer_a three_units
     terms_of state_of first_due next new_ledger opened_ledger due_of given_year given_years ledger_of dossier_call
     report reported eights twos_complement figure_bytes figures_bytes written ends_sound issued_after periods_answer periods_buffer reckon_buffer
     -- read back, and printed
-    field_at signed figure_at digits decimal decimal_of header spaced year_line year_lines named total_line sheet_of printout
+    field_at signed figure_at digits header spaced year_line year_lines named total_line sheet_of printout
 examples_hold = refl
 
 -- the unrounded total of case A is 1,196,360,888 ÷ 3

@@ -8,3 +8,6 @@ pub mod Refused
 pub mod Accepted
 pub mod Values
 pub mod Examples
+pub mod DecimalLaws
+pub mod FieldLaws
+pub mod ShortLaws

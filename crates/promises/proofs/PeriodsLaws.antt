@@ -19,8 +19,7 @@ use Rattle.periods.proofs.EndsLaws.{ends-judged, sound-inside}
 use Rattle.periods.proofs.RunningLaws.{totals-same}
 use Rattle.periods.proofs.IssuedLaws.{issued_now_lem}
 use Rattle.periods.proofs.TogetherLaws.{together}
-use Rattle.reckoner.specs.declared.Ledger.{Ledger}
-use Rattle.reckoner.specs.Ledger.{first_year}
+use Rattle.reckoner.specs.Ledger.{Ledger, first_year}
 use Rattle.reckoner.specs.Calls.{periods_buffer}
 use Rattle.reckoner.proofs.Invariant.{LedgerKept}
 use Rattle.reckoner.proofs.CloseLaws.{sound}

@@ -29,10 +29,9 @@ use Rattle.dossier.proofs.UnderLaws.{under-refused, under_none, no_plan, dossier
 use Rattle.dossier.proofs.Numbers.{under-zero}
 use Rattle.periods.specs.Periods.{EndsInRange, ends_sound}
 use Rattle.periods.proofs.EndsLaws.{ends-judged}
-use Rattle.reckoner.specs.declared.Ledger.{Ledger}
-use Rattle.reckoner.specs.declared.Answer.{Answer}
-use Rattle.reckoner.specs.Ledger.{empty_ledger, due_of, ledger_of}
+use Rattle.reckoner.specs.Ledger.{Ledger, empty_ledger, due_of, ledger_of}
 use Rattle.reckoner.specs.Calls.{
+  Answer,
   answered,
   said,
   answer_number,

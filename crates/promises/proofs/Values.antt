@@ -17,11 +17,10 @@ use Rattle.dossier.proofs.CauseLaws.{positive, dossier_causes}
 use Rattle.dossier.proofs.UnderLaws.{dossier-under-causes}
 use Rattle.periods.specs.Periods.{credited_in}
 use Rattle.periods.proofs.IssuedLaws.{count-issued}
-use Rattle.reckoner.specs.declared.Ledger.{Ledger}
-use Rattle.reckoner.specs.declared.Answer.{Answer}
-use Rattle.reckoner.specs.declared.Step.{Step}
-use Rattle.reckoner.specs.Ledger.{first_year}
+use Rattle.reckoner.specs.Ledger.{Ledger, first_year}
 use Rattle.reckoner.specs.Calls.{
+  Step,
+  Answer,
   answered,
   said,
   too_short,

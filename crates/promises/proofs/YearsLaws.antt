@@ -18,8 +18,7 @@ use Rattle.figures.specs.Reckoning.{year_figures, record_count, after_figures, a
 use Rattle.assurance.specs.Unrounded.{Unrounded, fraction_after_years}
 use Rattle.assurance.proofs.YearLaws.{Reckoned, year-reckoned}
 use Rattle.periods.specs.Periods.{running_total, credited_in}
-use Rattle.reckoner.specs.declared.Ledger.{Ledger}
-use Rattle.reckoner.specs.Ledger.{due_of, given_year, given_years}
+use Rattle.reckoner.specs.Ledger.{Ledger, due_of, given_year, given_years}
 use Rattle.reckoner.proofs.Invariant.{YearsTaken}
 use Rattle.promises.specs.Reported.{years_figures, projected_years}
 

@@ -6,8 +6,7 @@ use Rattle.wire.specs.Bytes.{Bytes}
 use Rattle.dossier.specs.Plan.{Plan}
 use Rattle.dossier.specs.Records.{WellFormedYears, WellFormedOpening, WellFormedYear, WellFormedPlan}
 use Rattle.periods.specs.Periods.{EndsInRange}
-use Rattle.reckoner.specs.declared.Ledger.{Ledger}
-use Rattle.reckoner.specs.Ledger.{due_of}
+use Rattle.reckoner.specs.Ledger.{Ledger, due_of}
 use Rattle.reckoner.specs.Calls.{answer_number, open_call, year_call, close_says, HandedBack, reckon_number}
 
 -- plan and dossier are well formed, the dossier under the plan, with n years from first on of which P holds

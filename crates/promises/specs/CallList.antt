@@ -6,11 +6,8 @@ use Rattle.figures.specs.Year.{Year}
 use Rattle.dossier.specs.Reader.{Judged, refused, accepted}
 use Rattle.dossier.specs.Judging.{year_piece}
 use Rattle.dossier.specs.JudgingPlan.{under}
-use Rattle.reckoner.specs.declared.Ledger.{Ledger}
-use Rattle.reckoner.specs.declared.Answer.{Answer}
-use Rattle.reckoner.specs.declared.Step.{Step}
-use Rattle.reckoner.specs.Ledger.{due_of}
-use Rattle.reckoner.specs.Calls.{answer_number, open_call, year_call, close_call}
+use Rattle.reckoner.specs.Ledger.{Ledger, due_of}
+use Rattle.reckoner.specs.Calls.{Step, Answer, answer_number, open_call, year_call, close_call}
 
 -- "year calls, each lent bytes of its own, whatever they are, and closings, each lent a result buffer of any length"; #103: "each year call of a list is
 -- lent a plan of its own, whatever it is"

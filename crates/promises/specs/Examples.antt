@@ -7,7 +7,7 @@ use Rattle.classes.specs.Matrix.{option_one_matrix}
 use Rattle.classes.specs.Calendar.{days_in_year}
 use Rattle.projection.specs.declared.Region.{Region}
 use Rattle.projection.specs.Projection.{area, opened_region, projected_region}
-use Rattle.activity.specs.declared.Activity.TheVariants.{Fuel, Nitrogen, Lime}
+use Rattle.activity.specs.Records.Activity.{Fuel, Nitrogen, Lime}
 use Rattle.activity.specs.Activity.{activity_grams}
 use Rattle.figures.specs.Figures.{credited_of}
 use Rattle.wire.specs.Signed.{figure_at}

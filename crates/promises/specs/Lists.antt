@@ -4,7 +4,7 @@ use Rattle.std.specs.Prelude.{ℕ, ◌+◌, ◌*◌, ◌≤◌, ◌≡◌, ◌�
 use Rattle.dossier.specs.Records.{Opening, empty_terms, empty_state, Settled, settled}
 use Rattle.dossier.specs.Reader.{Judged, refused, accepted}
 use Rattle.dossier.specs.Judging.{opening_piece}
-use Rattle.reckoner.specs.declared.Ledger.{Ledger}
+use Rattle.reckoner.specs.Ledger.{Ledger}
 use Rattle.reckoner.specs.Calls.{answer_number, closed_buffer, HandedBack}
 use Rattle.promises.specs.CallList.{Call, giving, called, ledger_after, brought_year, years_after, standing}
 use Rattle.promises.specs.Reported.{Reported}

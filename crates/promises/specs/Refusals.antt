@@ -9,8 +9,7 @@ use Rattle.dossier.specs.Records.{WellFormedPlan}
 use Rattle.dossier.specs.Repeated.{PlanRepeats}
 use Rattle.wire.specs.Bytes.{Bytes}
 use Rattle.periods.specs.Periods.{EndsInRange}
-use Rattle.reckoner.specs.declared.Ledger.{Ledger}
-use Rattle.reckoner.specs.Ledger.{empty_ledger}
+use Rattle.reckoner.specs.Ledger.{Ledger, empty_ledger}
 use Rattle.reckoner.specs.Calls.{answer_number, open_call, year_call, close_call, close_says, closed_buffer, reckon_number, reckon_buffer}
 use Rattle.sheet.specs.Sheet.{refusal_of}
 use Rattle.printout.specs.Printout.{printout}

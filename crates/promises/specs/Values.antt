@@ -3,7 +3,7 @@
 use Rattle.std.specs.Prelude.{ℕ, ◌+◌, ◌*◌, ◌<◌, ◌≡◌, List, [], pos, length, get_or}
 use Rattle.wire.specs.Bytes.{Bytes}
 use Rattle.wire.specs.Signed.{figure_at}
-use Rattle.reckoner.specs.declared.Ledger.{Ledger}
+use Rattle.reckoner.specs.Ledger.{Ledger}
 use Rattle.reckoner.specs.Calls.{Said, close_says, closed_buffer, HandedBack, dossier_call, reckon_says, reckon_buffer}
 
 -- "per year the eight figures .., then total, tonnes, project balance, belt balance", and the tonnes issued at each end (#107): an acceptance says so many

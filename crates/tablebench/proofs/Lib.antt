@@ -1,1 +1,1 @@
-pub mod SaidLaws
+pub mod EntriesLaws

@@ -1,100 +1,112 @@
-// The reader of conversion tables before #104, and a call of it and of the one since, for bench/tables. No part of the product.
+//! The reader of conversion tables before the one of the product, and a call of either, for bench/tables. No part of the product.
 #![tactic(auto)]
 
-ghost use Rattle.std.specs.Prelude.{◌≡◌, ◌≤◌, length, drop};
+ghost use Rattle.std.specs.Prelude.{◌≡◌, map, SomeIff, IfSome, IfOk};
+ghost use Rattle.wire.specs.Bytes.{number, total as sum_of};
 ghost use Rattle.classes.specs.Matrix.{entry};
-ghost use Rattle.projection.specs.Ranges.{SmallArea, FactorsFit};
+ghost use Rattle.projection.specs.Ranges.{SmallArea};
+ghost use Rattle.figures.specs.Figures.{monitored_carbon};
 ghost use Rattle.figures.specs.Ranges.{SmallCarbon};
-ghost use Rattle.tables.specs.Answers.{monitored_table, table_says, TableInside};
-ghost use Rattle.tablebench.specs.Said.{SmallAnswer, with_carbon, carbon_said, both_tables};
+ghost use Rattle.cursor.specs.Says.{says};
+ghost use Rattle.tables.specs.Answers.{monitored_table};
+ghost use Rattle.tablebench.specs.Said.{ReadsTables, amount, carbon_said, both_tables};
 
-use classes::{AreaUnits, CarbonUnits};
-use tables::TableAnswer;
+use classes::Factors;
+use cursor::Reader;
+use refusals::Refusal;
+use units::{AreaUnits, CarbonUnits};
 
-const CP: u64 = 0x4350;
+// The marks of the two tables, as numbers of 16 bits.
+const CP: u16 = 0x4350;
 
-const CD: u64 = 0x4344;
+const CD: u16 = 0x4344;
 
-// CP or CD from at: 144 conversions whose sum is total, weighed by the factors. Each is tested against what is left of the total.
-#[tactic(auto, unfolding(tables::specs::Rows::weighed, wire::specs::Bytes::field_at, wire::specs::Bytes::numbers, wire::specs::Bytes::total))]
-fn read_by_entries(
-    s: &[u8],
-    at: usize,
-    m: u64,
+/// The carbon of a table's conversions by these factors, if their areas come to the total. Each is tested against what is left of it.
+#[tactic(auto, using(crate::proofs::EntriesLaws::area_of_all, crate::proofs::EntriesLaws::carbon_of_all), unfolding(arithmetic::specs::Sum::sum))]
+fn carbon_of(
+    conversions: &[[u8; 8]; 144],
     total: AreaUnits,
-    factors: &[u64; 144],
-) -> TableAnswer
-    requires at_in_bounds { (at ≤ length s.now) × SmallArea total.0 }
-    requires factors_fit { FactorsFit factors.now }
-    ensures result_value { table_says s.now result ≡ monitored_table (entry factors.now) m total.0 (drop at s.now) }
-    ensures table_inside { TableInside s.now result }
+    factors: &Factors,
+) -> Option<CarbonUnits>
+    requires small_total { SmallArea total.0 }
+    ensures value { SomeIff result (sum_of (map number conversions.now) ≡ total.0) (record { 0 = monitored_carbon (entry factors.now) (map number conversions.now) }) }
+    ensures small { IfSome result (λ carbon. SmallCarbon carbon.0) }
 {
-    let fault = cursor::begun(s, at, m, 1152);
-    if fault != 0 {
-        return TableAnswer::Refused(fault);
-    }
     let mut left = total;
     let mut carbon = CarbonUnits(0);
-    let mut k: usize = 0;
-    while k < 144 {
-        let x = AreaUnits(wire::field64(s, at + 2 + 8 * k));
-        if left.0 < x.0 {
-            return TableAnswer::Refused(7);
+    for (k, conversion) in conversions.iter().enumerate() {
+        let area = tables::area_of(conversion);
+        if left < area {
+            return None;
         }
-        left = left.minus(x);
-        carbon = carbon.plus(projection::released(x, factors[k]));
-        k += 1;
+        left = left - area;
+        carbon += area * factors.entries[k];
     }
-    if left.0 != 0 {
-        return TableAnswer::Refused(7);
+    if left != AreaUnits(0) {
+        return None;
     }
-    TableAnswer::Read {
-        carbon,
-        next: at + 1154,
-    }
+    Some(carbon)
 }
 
-// The carbon of both tables, the second by its answer; 0 if that is a refusal.
-fn with_belt(project: CarbonUnits, belt: TableAnswer) -> u64
-    requires { SmallCarbon project.0 × SmallAnswer belt }
-    ensures { result ≡ with_carbon project.0 belt }
+/// The carbon of CP or CD, as `tables::read_table` has it, by the entries one after another.
+#[tactic(auto, unfolding(tables::specs::Answers::monitored_table, dossier::specs::JudgingRecords::conversions, dossier::specs::Reader::followed, dossier::specs::Reader::fields, dossier::specs::Reader::equal, dossier::specs::Reader::give))]
+fn read_by_entries(
+    reader: &mut Reader,
+    mark: u16,
+    total: AreaUnits,
+    factors: &Factors,
+) -> Result<CarbonUnits, Refusal>
+    requires small_total { SmallArea total.0 }
+    ensures value { says (λ carbon. carbon) result reader.new ≡ monitored_table (entry factors.now) mark total.0 reader.old }
+    ensures small { IfOk result (λ carbon. SmallCarbon carbon.0) }
 {
-    match belt {
-        TableAnswer::Read { carbon, next } => project.0 + carbon.0,
-        TableAnswer::Refused(n) => 0,
-    }
+    reader.begin(mark, 1152)?;
+    carbon_of(reader.fields(), total, factors).ok_or(Refusal::ConversionTotalWrong)
 }
 
-// The carbon of CP and CD from a place, both of this total, by the reader since #104; bench/tables.c sees to the ranges.
-pub fn tables_by_rows(s: &[u8], at: usize, total: u64, factors: &[u64; 144]) -> u64
-    requires at_in_bounds { (at ≤ length s.now) × SmallArea total }
-    requires factors_fit { FactorsFit factors.now }
-    ensures { result ≡ carbon_said (both_tables (entry factors.now) total (drop at s.now)) }
+/// The carbon of CP and CD together, each read by `read`, both of this total.
+#[tactic(auto, unfolding(crate::specs::Said::both_tables, dossier::specs::Reader::followed, dossier::specs::Reader::give))]
+fn read_both<F: Fn(&mut Reader, u16) -> Result<CarbonUnits, Refusal>>(
+    reader: &mut Reader,
+    total: AreaUnits,
+    factors: &Factors,
+    read: F,
+) -> Result<CarbonUnits, Refusal>
+    requires callable { F.IsAlwaysCallable read }
+    requires reads { ReadsTables (entry factors.now) total.0 (F.post read) }
+    ensures { says amount result reader.new ≡ both_tables (entry factors.now) total.0 reader.old }
 {
-    match tables::read_table(s, at, CP, AreaUnits(total), factors) {
-        TableAnswer::Refused(n) => 0,
-        TableAnswer::Read { carbon, next } => {
-            with_belt(
-                carbon,
-                tables::read_table(s, next, CD, AreaUnits(total), factors),
-            )
-        }
-    }
+    let project = read(reader, CP)?;
+    let belt = read(reader, CD)?;
+    Ok(project + belt)
 }
 
-// The same by the reader before it.
-pub fn tables_by_entries(s: &[u8], at: usize, total: u64, factors: &[u64; 144]) -> u64
-    requires at_in_bounds { (at ≤ length s.now) × SmallArea total }
-    requires factors_fit { FactorsFit factors.now }
-    ensures { result ≡ carbon_said (both_tables (entry factors.now) total (drop at s.now)) }
+/// The carbon of CP and CD, both of this total, by the reader of the product; 0 where one is refused.
+pub fn tables_by_rows(bytes: &[u8], total: AreaUnits, factors: &Factors) -> u64
+    requires small_total { SmallArea total.0 }
+    ensures { result ≡ carbon_said (both_tables (entry factors.now) total.0 bytes.now) }
 {
-    match read_by_entries(s, at, CP, AreaUnits(total), factors) {
-        TableAnswer::Refused(n) => 0,
-        TableAnswer::Read { carbon, next } => {
-            with_belt(
-                carbon,
-                read_by_entries(s, next, CD, AreaUnits(total), factors),
-            )
-        }
-    }
+    let mut reader = Reader::new(bytes);
+    read_both(
+        &mut reader,
+        total,
+        factors,
+        |reader, mark| tables::read_table(reader, mark, total, factors),
+    )
+    .map_or(0, |carbon| carbon.0)
+}
+
+/// The same by the reader before it.
+pub fn tables_by_entries(bytes: &[u8], total: AreaUnits, factors: &Factors) -> u64
+    requires small_total { SmallArea total.0 }
+    ensures { result ≡ carbon_said (both_tables (entry factors.now) total.0 bytes.now) }
+{
+    let mut reader = Reader::new(bytes);
+    read_both(
+        &mut reader,
+        total,
+        factors,
+        |reader, mark| read_by_entries(reader, mark, total, factors),
+    )
+    .map_or(0, |carbon| carbon.0)
 }

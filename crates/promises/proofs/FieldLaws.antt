@@ -1,0 +1,21 @@
+-- A field of v + w bytes is one of v bytes and one of w: the one law of every width.
+-- Assumes nothing.
+use Prim.Native.Nat.{ℕ, ◌+◌, ◌*◌, ◌^◌, ◌≤◌}
+use mathlib.Core.Path.{◌≡◌}
+use mathlib.Core.List.{List, [], ◌∷◌, ◌++◌}
+use lib.Pow.{pow-add}
+use native.Mathlib.Omega.{arith}
+use lib.ListN.{length, take, drop, length-append, length-drop}
+use lib.Seq.{take-add, drop-drop, length-take-le}
+use Rattle.wire.specs.Bytes.{number, field_at}
+
+number_append : (s t : List ℕ) → number (s ++ t) ≡ number s * 256 ^ length t + number t
+unfolding number
+number_append [] t = omega arith
+number_append (b ∷ s) t = rw (length-append s t, pow-add 256 (length s) (length t), number_append s t) (omega arith)
+
+pub field-joined : (v w : ℕ) (s : List ℕ) (at : ℕ) → at + (v + w) ≤ length s → field_at (v + w) s at ≡ field_at v s at * 256 ^ w + field_at w s (at + v)
+unfolding field_at
+field-joined v w s at h =
+    let l : length (take w (drop (at + v) s)) ≡ w = length-take-le w (drop (at + v) s) (simp length-drop (omega arith)) in
+    rw (take-add v w (drop at s), drop-drop, number_append, l)

@@ -1,0 +1,9 @@
+use Rattle.std.proofs.Common.{◌-◌, ◌≤◌}
+use Rattle.tablebench.proofs.EntriesLaws.{SoFar}
+use Rattle.tablebench.proofs.carbon_of.Given as goal
+
+abbrev pub invariant-loop-k : goal.invariant-loop-k
+invariant-loop-k l = record {
+  within : l.left.0 ≤ l.fn.total.0;
+  read : SoFar l.conversions l.factors l.k (l.fn.total.0 - l.left.0) l.carbon.0;
+}
