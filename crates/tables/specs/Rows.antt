@@ -5,7 +5,7 @@ use Rattle.arithmetic.specs.Sum.{sum}
 use Rattle.wire.specs.Bytes.{number}
 use Rattle.tables.specs.declared.Row.{Row}
 
--- the area of conversion k, from the bytes of each
+-- the area of a conversion, from the bytes of each
 abbrev pub area_at : List (List ℕ) → ℕ → ℕ
 area_at fields k = number (get_or fields k [])
 
