@@ -10,8 +10,9 @@ ghost use Rattle.cursor.specs.Says.{says};
 ghost use Rattle.activities.specs.Answers.{SaysMark, RecordsSaid, summed_activities};
 
 use cursor::Reader;
+use cursor::marks::CR;
 use pairs::Keys;
-use records::{CR, is_activity, read_activity};
+use records::{is_activity, read_activity};
 use refusals::Refusal;
 use units::Grams;
 

@@ -14,18 +14,8 @@ use activity::{
     Vehicles,
 };
 use cursor::Reader;
+use cursor::marks::{CR, FU, LI, NI, VE};
 use refusals::Refusal;
-
-const FU: u16 = 0x4655;
-
-const VE: u16 = 0x5645;
-
-const NI: u16 = 0x4e49;
-
-const LI: u16 = 0x4c49;
-
-/// The mark of a nitrogen-fixing crop.
-pub const CR: u16 = 0x4352;
 
 /// The most grams of FU, VE and LI.
 const GREATEST_MASS: u64 = 1_000_000_000_000;
@@ -46,6 +36,8 @@ fn present(reader: &Reader, size: usize) -> Result<(), Refusal>
     }
     Ok(())
 }
+
+// FU and LI differ in the type of the kind: one function over both types would ask for the numbers of each in its contract, and be no plainer.
 
 // FU from its fields on.
 fn read_fuel(reader: &mut Reader) -> Result<Activity, Refusal>

@@ -40,6 +40,10 @@ n2o_share-le source crop h k = kind_le (λ s. n2o_share s crop) 1425 (all-at 3 (
 pub factored_le : (grams factor divisor : ℕ) → grams ≤ 1000000000000 → factor ≤ 4 * divisor → 1 ≤ divisor → ceil_div (grams * factor) divisor ≤ greatest_record
 factored_le grams factor divisor g f d = ceil_div-le _ _ _ d (omega (arith, mul-le-mul g f))
 
+pub factor_grams_le : {grams factor greatest divisor : ℕ} → grams ≤ 1000000000000 → factor ≤ greatest → greatest ≤ 4 * divisor → 0 < divisor
+    → ceil_div (grams * factor) divisor ≤ greatest_record
+factor_grams_le g f b d = ceil_div-le _ _ _ d (omega (arith, mul-le-mul g f))
+
 pub weighed_le : (nitrogen weight divisor : ℕ) → nitrogen ≤ 10000000 * divisor → weight ≤ 4671150 → 1 ≤ divisor
     → ceil_div (nitrogen * weight) divisor ≤ greatest_record
 weighed_le nitrogen weight divisor n w d = ceil_div-le _ _ _ d (omega (arith, mul-le-mul n w))

@@ -1,5 +1,5 @@
 -- A record of the code as it is filed: each kind by its number.
--- Serves contracts of inner functions and proofs; nothing here has to be believed. Assumes nothing.
+-- Serves contracts of inner functions and proofs: no contract of a public call names it, so nothing here has to be believed. Assumes nothing.
 use Rattle.activity.specs.declared.records.Activity.{Activity as Typed}
 use Rattle.activity.specs.declared.records.FixingCrop.{FixingCrop as TypedCrop}
 use Rattle.activity.specs.declared.records.Part.{Part as TypedPart}

@@ -1,5 +1,5 @@
 -- The number of each kind in a record, and the kind that a number names.
--- Serves contracts of inner functions and proofs; nothing here has to be believed. Assumes nothing.
+-- Serves contracts of inner functions and proofs: no contract of a public call names it, so nothing here has to be believed. Assumes nothing.
 use Rattle.std.specs.Prelude.{ℕ, ◌≤◌, ◌<◌, ◌≡◌, Result, Ok, Err}
 use Rattle.refusals.specs.declared.Refusal.{Refusal}
 use Rattle.refusals.specs.declared.Refusal.TheVariants.{ActivityOutOfRange}

@@ -6,6 +6,8 @@ ghost use Rattle.activity.specs.Kinds.{fuel_kind_number, nitrogen_source_number,
 
 use refusals::Refusal;
 
+// Each has a conversion of its own from its number: a trait is implemented type by type, and no type has the numbers of another.
+
 /// A fuel: of FU, and of the vehicles of VE.
 #[derive(Clone, Copy, Debug, PartialEq, Eq)]
 pub enum FuelKind {

@@ -87,6 +87,8 @@ const FUEL_DIVISOR: u64 = 100_000;
 /// Grams of CO2 that 7 grams of nitrogen in N2O come to: 7 × 44 ÷ 28 × 298.
 const N2O_WEIGHT: u64 = 3_278;
 
+// Divisors are constants of the factors, named at each call: std's `NonZero` would be made and taken apart there.
+
 // Grams of CO2 from grams of a material, factor from each divisor of them.
 #[tactic(auto, using(crate::proofs::ActivityLaws::factored_le))]
 fn by_factor(grams: u64, factor: u64, divisor: u64) -> Grams
@@ -96,6 +98,7 @@ fn by_factor(grams: u64, factor: u64, divisor: u64) -> Grams
     requires divisor_bound { divisor ≤ 100000 }
     ensures { result.0 ≡ pos (ceil_div (grams * factor) divisor) }
 {
+    // `as`: proved to fit, so that `try_from` would bring a case that never comes. So in `by_weight`.
     Grams(arithmetic::divided_up(grams * factor, divisor) as i64)
 }
 
@@ -174,6 +177,7 @@ impl Activity {
     pub fn key(self) -> Words
         ensures { result ≡ key_of (as_filed self) }
     {
+        // `as`: of a kind to its number in the record; a `From` of its own would say the numbers once more.
         match self {
             Activity::Fuel(Fuel { kind, grams }) => Words {
                 low: (grams * 4 + kind as u64) * 8,

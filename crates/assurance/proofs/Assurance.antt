@@ -1,7 +1,6 @@
 -- What demand 3 assures follows from how near the reckoning is to the unrounded one.
 -- Assumes nothing.
-use Prim.Native.Nat.{ℕ}
-use native.Mathlib.Omega.{arith}
+use Rattle.std.proofs.Common.{ℕ, arith}
 use Rattle.arithmetic.proofs.NearLaws.{near_≤ᶠ, near_gap}
 use Rattle.figures.specs.declared.State.{State}
 use Rattle.assurance.specs.Unrounded.{Unrounded}

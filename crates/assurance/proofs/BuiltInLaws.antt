@@ -1,8 +1,6 @@
 -- By the built-in stocks, the bound of #102 is no wider than that of #101.
 -- Assumes nothing.
-use Prim.Native.Nat.{ℕ, ◌+◌, ◌*◌, ◌<◌}
-use native.Mathlib.Omega.{arith}
-use lib.IntN.{ℤ, pos}
+use Rattle.std.proofs.Common.{ℕ, ◌+◌, ◌*◌, ◌<◌, arith, ℤ, pos}
 use Rattle.arithmetic.specs.Fraction.{Fraction, ◌<ᶠ◌, whole, ◌-ᶠ◌}
 use Rattle.arithmetic.proofs.FractionLaws.{times_below}
 use Rattle.classes.specs.Classes.{carbon_stocks, greatest_in}

@@ -1,9 +1,6 @@
 -- How far a credit is from its unrounded value, and that a greater unrounded reduction never credits less.
 -- Assumes nothing.
-use Prim.Native.Nat.{ℕ, ◌+◌, ◌*◌, ◌/◌, ◌≤◌}
-use native.Mathlib.Nat.{mul-le-mul_right, div-mul-le_self}
-use native.Mathlib.Omega.{arith}
-use lib.IntN.{ℤ, pos, negsuc}
+use Rattle.std.proofs.Common.{ℕ, ◌+◌, ◌*◌, ◌/◌, ◌≤◌, mul-le-mul_right, div-mul-le_self, arith, ℤ, pos, negsuc}
 use Rattle.arithmetic.specs.Fraction.{Fraction, ◌≤ᶠ◌, ◌×ᶠ◌, ◌÷ᶠ◌by◌}
 use Rattle.arithmetic.proofs.FractionLaws.{parts_≤ᶠ, ≤ᶠ_parts}
 use Rattle.arithmetic.proofs.NearLaws.{Near}

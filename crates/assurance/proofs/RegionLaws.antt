@@ -1,12 +1,6 @@
 -- The rounded and the unrounded projection of a region side by side, for any area list and any matrix whose rows sum to 1,000,000.
 -- Assumes nothing.
-use mathlib.Core.Path.{◌≡◌, ap}
-use mathlib.Core.List.{List}
-use Prim.Native.Nat.{ℕ, suc, ◌+◌, ◌*◌, ◌≤◌, ◌<◌}
-use native.Mathlib.Nat.{zero-lt-suc, mul-le-mul_right, mul-pos, le_of_eq}
-use native.Mathlib.Omega.{arith}
-use lib.Dec.{lit<}
-use lib.IntN.{pos}
+use Rattle.std.proofs.Common.{◌≡◌, ap, List, ℕ, suc, ◌+◌, ◌*◌, ◌≤◌, ◌<◌, zero-lt-suc, mul-le-mul_right, mul-pos, le_of_eq, arith, lit<, pos}
 use Rattle.arithmetic.specs.Sum.{sum}
 use Rattle.arithmetic.specs.Fraction.{Fraction, whole, ◌×ᶠ◌, fraction_sum}
 use Rattle.arithmetic.proofs.SumLaws.{sum-mul, sum_swap, sum2}

@@ -1,13 +1,7 @@
 -- How far each unrounded figure of a year is from the rounded one, and the years one after the other.
 -- Assumes nothing.
-use mathlib.Core.Path.{◌≡◌, refl}
-use mathlib.Core.List.{List, [], ◌∷◌}
-use Prim.Native.Nat.{ℕ, suc, ◌+◌, ◌*◌, ◌/◌, ◌≤◌, ◌<◌}
-use native.Mathlib.Nat.{mul_assoc, zero-lt-suc, mul-le-mul_right, mul-le-mul_left, mul-pos, div-mul-le_self, lt-div-mul-add}
-use native.Mathlib.Omega.{arith}
-use lib.Dec.{lit<}
-use lib.ListN.{length}
-use lib.IntN.{pos}
+use Rattle.std.proofs.Common.{◌≡◌, refl, List, [], ◌∷◌, ℕ, suc, ◌+◌, ◌*◌, ◌/◌, ◌≤◌, ◌<◌, mul_assoc, zero-lt-suc, mul-le-mul_right, mul-le-mul_left, mul-pos, div-mul-le_self, arith, lit<, length, pos}
+use native.Mathlib.Nat.{lt-div-mul-add}
 use Rattle.arithmetic.specs.Rounding.{ceil_div}
 use Rattle.arithmetic.specs.Fraction.{Fraction, whole}
 use Rattle.arithmetic.proofs.RoundingLaws.{ceil_div-is}

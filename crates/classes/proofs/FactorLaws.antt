@@ -2,11 +2,14 @@
 -- Assumes nothing.
 use mathlib.Core.Bool.{Bool, true, false, cond, ◌||◌}
 use mathlib.Core.List.{List, [], ◌∷◌}
-use Prim.Native.Nat.{ℕ, zero, suc, ◌-◌, ◌/◌, ◌%◌, ◌≤◌}
+use Prim.Native.Nat.{ℕ, zero, suc, ◌+◌, ◌-◌, ◌/◌, ◌%◌, ◌≤◌, ◌<◌}
 use native.Mathlib.Omega.{arith}
 use lib.Dec.{eqb}
-use mathlib.Core.Path.{refl}
-use lib.ListN.{get_or, replicate}
+use mathlib.Core.Path.{◌≡◌, refl, sym, ◌∙◌}
+use lib.ListN.{length, take, set, get_or, replicate}
+use lib.Seq.{take_all}
+use Rattle.std.proofs.Math.ListN.{length-set}
+use Rattle.std.proofs.lemmas.List.{take_more, take_more_set}
 use Rattle.arithmetic.proofs.SumLaws.{length-listed, listed_le}
 use Rattle.arithmetic.proofs.TableLaws.{at_most, entry-le}
 use Rattle.classes.specs.Classes.{class_tp, class_pp, carbon_stocks, emission_factor, greatest_in, greatest_stock}
@@ -34,6 +37,26 @@ greatest_factor stocks = factor_le stocks (greatest_in stocks) (stock_le stocks)
 pub built_in_le : (i : ℕ) → get_or carbon_stocks i 0 ≤ greatest_stock
 unfolding carbon_stocks at_most
 built_in_le = entry-le greatest_stock carbon_stocks tt
+
+-- the built-in stocks taken one by one: the first k are taken
+pub record BuiltInBelow (stocks : List ℕ) (k : ℕ) : Type 0 where
+  pub twelve : length stocks ≡ 12
+  pub same : take k stocks ≡ take k carbon_stocks
+
+pub built_in_next : (stocks : List ℕ) (k stock : ℕ) → k < 12 → BuiltInBelow stocks k → stock ≡ get_or carbon_stocks k 0 → BuiltInBelow (set stocks k stock) (k + 1)
+unfolding carbon_stocks
+built_in_next stocks k stock few below is_stock = record {
+  twelve = length-set stocks k stock ∙ below.twelve;
+  same = take_more_set stocks k stock (omega (arith, below.twelve)) ∙ rw (below.same, is_stock) (sym (take_more carbon_stocks k 0 few));
+}
+
+pub built_in_whole : (stocks : List ℕ) → BuiltInBelow stocks 12 → stocks ≡ carbon_stocks
+unfolding carbon_stocks
+built_in_whole stocks below = sym (take_all 12 stocks (omega (arith, below.twelve))) ∙ below.same
+
+pub built_in_are_stocks : {stocks : List ℕ} → stocks ≡ carbon_stocks → IsStocks stocks
+unfolding carbon_stocks
+built_in_are_stocks same = rw (same) (record { twelve = refl; small = built_in_le })
 
 -- no entry of a table of f is above a bound of f
 pub table_le : (f : ℕ → ℕ → ℕ) (g : ℕ) → ((i j : ℕ) → f i j ≤ g) → (k : ℕ) → get_or (table_of f) k 0 ≤ g

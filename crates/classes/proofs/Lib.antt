@@ -1,5 +1,6 @@
 pub mod Tests
 pub mod TableLaws
+pub mod FillLaws
 pub mod MatrixLaws
 pub mod CalendarLaws
 pub mod FactorLaws

@@ -1,13 +1,16 @@
 //! The twelve land use classes: their constant tables, the matrix and the emission factors from class to class, and the calendar.
 #![tactic(auto)]
 
-ghost use Rattle.std.specs.Prelude.{◌≡◌, ◌+◌, ◌*◌, ◌<◌, ◌≤◌, replicate};
+ghost use Rattle.std.specs.Prelude.{◌≡◌, ◌+◌, ◌*◌, ◌<◌, ◌≤◌, replicate, get_or};
 ghost use Rattle.classes.specs.Classes.{carbon_stocks, emission_factor, greatest_stock};
 ghost use Rattle.classes.specs.Matrix.{entry, table_of, million, option_one, option_one_matrix};
 ghost use Rattle.classes.specs.Tables.{IsTableBy, TakesClasses};
 ghost use Rattle.classes.specs.Calendar.{days_in_year};
 
 use std::marker::Model;
+
+// A class is its place among the twelve, from 0, and not an enum: the tables are arrays, which are filled and read in loops over the places, so that an
+// enum would be made of a place and turned back at each entry.
 
 /// Tree plantation, pine plantation and non-forest: their places among the twelve classes.
 pub const TP: usize = 9;
@@ -67,6 +70,8 @@ impl Model for Stocks {
     ghost invariant = { λ stocks. IsStocks stocks.by_class };
 }
 
+// `Matrix` and `Factors` are tables of the same shape of which other things are true: each has a Model of its own.
+
 /// Annual probabilities of conversion from class to class, in millionths, row by row; no row sums to more than 1,000,000.
 #[derive(Clone, Copy, Debug)]
 pub struct Matrix {
@@ -105,8 +110,8 @@ impl Model for Factors {
     ghost invariant = { λ factors. AreFactors factors.entries };
 }
 
-/// The place of a pair of classes in a table.
-fn place(from: usize, to: usize) -> usize
+/// The place of a pair of classes in a table: row by row.
+pub fn place(from: usize, to: usize) -> usize
     requires from_class { from < 12 }
     requires to_class { to < 12 }
     ensures { result ≡ 12 * from + to }
@@ -126,6 +131,15 @@ pub fn fill_table<F: Fn(usize, usize) -> u64>(table: &mut [u64; 144], entry: F)
     }
 }
 
+/// The built-in stock of a class, in hundredths of tC per ha.
+#[tactic(auto, unfolding(crate::specs::Classes::carbon_stocks))]
+fn carbon_stock(class: usize) -> u64
+    requires { class < 12 }
+    ensures { result ≡ get_or carbon_stocks class 0 }
+{
+    CARBON_STOCKS[class]
+}
+
 /// The emission factor from one class to another, in hundredths of tC per ha.
 #[tactic(auto, unfolding(crate::specs::Classes::emission_factor))]
 fn emission_factor(stocks: &[u64; 12], from: usize, to: usize) -> u64
@@ -138,6 +152,13 @@ fn emission_factor(stocks: &[u64; 12], from: usize, to: usize) -> u64
     } else {
         stocks[from].saturating_sub(stocks[to])
     }
+}
+
+/// Fills a table with the emission factors by these stocks.
+pub fn fill_factors(factors: &mut [u64; 144], stocks: &[u64; 12])
+    ensures { factors.new ≡ table_of (emission_factor stocks.now) }
+{
+    fill_table(factors, |from, to| emission_factor(stocks, from, to));
 }
 
 /// Option 1's annual probability of conversion from one class to another, in millionths.
@@ -157,13 +178,14 @@ fn option_one(from: usize, to: usize) -> u64
 
 impl Stocks {
     /// The built-in stocks.
-    #[tactic(auto, unfolding(crate::specs::Classes::carbon_stocks), using(crate::proofs::FactorLaws::built_in_le))]
     pub fn built_in() -> Stocks
         ensures { result ≡ carbon_stocks }
     {
-        Stocks {
-            by_class: CARBON_STOCKS,
+        let mut by_class = [0; 12];
+        for class in 0..12 {
+            by_class[class] = carbon_stock(class);
         }
+        Stocks { by_class }
     }
 
     /// No stock in any class.
@@ -191,17 +213,6 @@ impl Matrix {
     {
         Matrix { entries: [0; 144] }
     }
-
-    /// The annual probability of conversion from one class to another, in millionths.
-    #[tactic(auto, using(crate::proofs::MatrixLaws::probability_le))]
-    pub fn probability(&self, from: usize, to: usize) -> u64
-        requires from_class { from < 12 }
-        requires to_class { to < 12 }
-        ensures value { result ≡ entry self.now from to }
-        ensures small { result ≤ million }
-    {
-        self.entries[place(from, to)]
-    }
 }
 
 impl Factors {
@@ -212,42 +223,14 @@ impl Factors {
     {
         Factors { entries: [0; 144] }
     }
-
-    /// Takes the emission factors by these stocks.
-    pub fn take_stocks(&mut self, stocks: &Stocks)
-        ensures { self.new ≡ table_of (emission_factor stocks.now) }
-    {
-        let stocks = &stocks.by_class;
-        fill_table(
-            &mut self.entries,
-            |from, to| emission_factor(stocks, from, to),
-        );
-    }
-
-    /// The emission factors by these stocks.
-    pub fn of_stocks(stocks: &Stocks) -> Factors
-        ensures { result ≡ table_of (emission_factor stocks.now) }
-    {
-        let mut factors = Factors::none();
-        factors.take_stocks(stocks);
-        factors
-    }
-
-    /// The emission factor from one class to another, in hundredths of tC per ha.
-    pub fn factor(&self, from: usize, to: usize) -> u64
-        requires from_class { from < 12 }
-        requires to_class { to < 12 }
-        ensures value { result ≡ entry self.now from to }
-        ensures small { result ≤ greatest_stock }
-    {
-        self.entries[place(from, to)]
-    }
 }
 
 /// The days of a Gregorian year.
 #[tactic(auto, unfolding(crate::specs::Calendar::days_in_year))]
 pub fn days_in_year(year: u64) -> u64
-    ensures { result ≡ days_in_year year }
+    ensures value { result ≡ days_in_year year }
+    ensures least { 365 ≤ result }
+    ensures most { result ≤ 366 }
 {
     if year % 400 == 0 || (year % 4 == 0 && year % 100 != 0) {
         366

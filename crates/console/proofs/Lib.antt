@@ -1,1 +1,3 @@
+pub mod FilledLaws
+pub mod LentLaws
 pub mod Rulesets

@@ -2,13 +2,13 @@
 //! holds of it.
 #![tactic(auto)]
 
-ghost use Rattle.std.specs.Prelude.{◌≤◌, ◌≡◌, [], ◌∷◌, length, drop, vec_len, IfOk, IfSome, IsTrue, OnOk};
+ghost use Rattle.std.specs.Prelude.{◌≤◌, ◌≡◌, [], ◌∷◌, length, drop, IfOk, IfSome, IsTrue, OnOk};
 ghost use Rattle.std.specs.Int.{to_be_bytes, w32};
 ghost use Rattle.std.specs.Io.KnownBytes.{Appends, Consumes};
 ghost use Rattle.sheet.specs.CallLine.{call_line};
 ghost use Rattle.console.specs.Filled.{filled};
 
-use std::alloc::Global;
+use arrayvec::ArrayVec;
 use std::io;
 use std::io::{ErrorKind, Read, Write};
 
@@ -49,6 +49,7 @@ fn length_of(field: [u8; 4]) -> Option<usize>
     if length > 65_536 {
         return None;
     }
+    // `as`: 32 bits fit a place, which `usize::from` does not know.
     Some(length as usize)
 }
 
@@ -65,24 +66,19 @@ pub fn read_length<R: Read>(input: &mut R) -> io::Result<Option<usize>>
     }
 }
 
-/// The next piece of the input, of so many bytes, or `None` where the input ends before.
-pub fn read_piece<R: Read>(
-    alloc: Global,
-    input: &mut R,
-    length: usize,
-) -> io::Result<Option<Vec<u8>>>
-    ensures length { IfOk result (λ read. IfSome read (λ piece. vec_len piece ≡ length)) }
-    ensures bytes { IfOk result (λ read. IfSome read (λ piece. Consumes (R.remaining input.old) (R.remaining input.new) piece.items)) }
+/// The next piece of the input, as long as the space that is lent for it, or `None` where the input ends before.
+pub fn read_piece<'a, R: Read>(input: &mut R, space: &'a mut [u8]) -> io::Result<Option<&'a [u8]>>
+    ensures length { IfOk result (λ read. IfSome read (λ piece. length piece.now ≡ length space.old)) }
+    ensures bytes { IfOk result (λ read. IfSome read (λ piece. Consumes (R.remaining input.old) (R.remaining input.new) piece.now)) }
 {
-    let mut piece = vec![in alloc; 0u8; length]?;
-    if fill(input, &mut piece)? {
-        Ok(Some(piece))
+    if fill(input, space)? {
+        Ok(Some(space))
     } else {
         Ok(None)
     }
 }
 
-/// Prints the line of a call: its word, its number and every whole figure of a part of a report; how many bytes the line has.
+/// Prints the line of a call in one piece: its word, its number and every whole figure of a part of a report; how many bytes the line has.
 #[tactic(auto, unfolding(sheet::specs::CallLine::call_line))]
 pub fn print_call<W: Write>(
     output: &mut W,
@@ -90,14 +86,25 @@ pub fn print_call<W: Write>(
     number: u8,
     figures: &[u8],
 ) -> io::Result<usize>
-    requires { length figures.now ≤ 1472 }
+    requires word { length word.now ≤ 100 }
+    requires figures { length figures.now ≤ 1472 }
     ensures count { IfOk result (λ written. written ≡ length (call_line word.now number figures.now)) }
     ensures bytes { OnOk result (Appends (W.contents output.old) (W.contents output.new) (call_line word.now number figures.now)) }
 {
     let numbers = sheet::numbers_line(number, figures);
-    output.write_all(word)?;
-    output.write_all(numbers.as_bytes())?;
-    Ok(word.len() + numbers.len())
+    let mut line = ArrayVec::<u8, 4196>::new();
+    let _fits = line.try_extend_from_slice(word);
+    let _fits = line.try_extend_from_slice(numbers.as_bytes());
+    output.write_all(&line)?;
+    Ok(line.len())
+}
+
+/// A buffer full of the filling.
+pub fn filled_buffer() -> [u8; 65_536]
+    ensures length { 65536 ≡ length result }
+    ensures filled { IsTrue (filled result) }
+{
+    [FILLING; 65_536]
 }
 
 /// Whether a buffer is still filled from a place on.

@@ -1,2 +1,3 @@
 pub mod FieldLaws
+pub mod AtLaws
 pub mod Rulesets

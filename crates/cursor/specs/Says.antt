@@ -1,5 +1,6 @@
 -- What a reader says by its result: the value and the bytes that are left, or the number of the refusal.
--- Serves contracts of inner functions and proofs; nothing here has to be believed. Assumes nothing.
+-- Serves contracts of inner functions and proofs; to be believed only with the claim that the two readers of tables are one (tables/specs/Readers), which
+-- speaks of a reader's result by it. Assumes nothing.
 use Rattle.std.specs.Prelude.{List, ℕ, Result, Ok, Err}
 use Rattle.refusals.specs.declared.Refusal.{Refusal}
 use Rattle.refusals.specs.Refusals.{number_of}

@@ -38,6 +38,8 @@ impl<'a> Reader<'a> {
         self.rest
     }
 
+    // One for each width, as std has `from_be_bytes`: the type of the result tells its range.
+
     /// The next byte as a number.
     #[tactic(auto, using(crate::proofs::FieldLaws::field_8))]
     pub fn u8(&mut self) -> u8
@@ -148,7 +150,9 @@ impl<'a> Reader<'a> {
     /// That a number which was read is in its range, both ends included: otherwise the cause.
     #[tactic(auto, unfolding(dossier::specs::Reader::within, dossier::specs::Reader::outside))]
     pub fn within(&self, low: u64, number: u64, high: u64, cause: Refusal) -> Result<(), Refusal>
-        ensures { says done result self.now ≡ within (number_of cause) low number high self.now }
+        ensures value { says done result self.now ≡ within (number_of cause) low number high self.now }
+        ensures least { OnOk result (low ≤ number) }
+        ensures most { OnOk result (number ≤ high) }
     {
         if number < low || high < number {
             return Err(cause);
@@ -159,7 +163,8 @@ impl<'a> Reader<'a> {
     /// That a number which was read is the one that is due: otherwise the cause.
     #[tactic(auto, unfolding(dossier::specs::Reader::equal))]
     pub fn equal(&self, number: u64, due: u64, cause: Refusal) -> Result<(), Refusal>
-        ensures { says done result self.now ≡ equal (number_of cause) number due self.now }
+        ensures value { says done result self.now ≡ equal (number_of cause) number due self.now }
+        ensures same { OnOk result (number ≡ due) }
     {
         if number != due {
             return Err(cause);

@@ -1,13 +1,7 @@
 -- The table of activity records: each row is right, the mark tells the row, and what is accepted is exactly the bytes of an activity record in range.
 -- Assumes nothing.
-use Prim.Native.Nat.{ℕ, ◌+◌, ◌*◌, ◌≤◌}
-use mathlib.Core.Path.{◌≡◌, refl, ◌∙◌, ap, sym}
-use mathlib.Core.Bool.{Bool, true, false, cond}
-use mathlib.Core.List.{List, [], ◌∷◌, ◌++◌, append_assoc}
-use native.Mathlib.Omega.{arith}
-use borrow.Author.Tests.{eqb-true}
-use lib.Dec.{eqb, lit<, lit≤}
-use lib.ListN.{length, take, drop, length-append, length-drop}
+use Rattle.std.proofs.Common.{ℕ, ◌+◌, ◌*◌, ◌≤◌, ◌≡◌, refl, ◌∙◌, ap, sym, Bool, true, false, cond, List, [], ◌∷◌, ◌++◌, append_assoc}
+use Rattle.std.proofs.Common.{arith, eqb-true, eqb, lit<, length, take, drop, length-append, length-drop}
 use Rattle.activity.specs.Records.{Activity}
 use Rattle.activity.specs.Records.Activity.{Fuel, Vehicles, Nitrogen, Lime, Residue}
 use Rattle.activity.specs.Activity.{ActivityInRange, residue_one}
@@ -95,10 +89,7 @@ module _ (a : Activity) (t : List ℕ) where
   marked = let k = place a in ap (λ (x : Activity). activity_bytes x ++ t) (sym k.made) ∙ rw (k.right.bytes k.numbers, append_assoc)
 
   pub begins_with : (kind : ℕ → Bool) → stands kind (activity_bytes a ++ t) ≡ kind (layout_of a).mark
-  begins_with kind =
-      let k = place a in
-      let own : (layout_of a).mark ≡ k.row.mark = ap (λ (x : Activity). (layout_of x).mark) (sym k.made) ∙ ap (λ (l : Layout). l.mark) (k.right.own k.numbers) in
-      rw (marked, stands-bytes kind k.row.mark after-mark k.right.small, own)
+  begins_with kind = grind (arith, marked, stands-bytes, after-mark)
 
   pub begins_activity : stands activity_mark (activity_bytes a ++ t) ≡ true
   begins_activity = let k = place a in rw (marked, stands-bytes activity_mark k.row.mark after-mark k.right.small) k.due
@@ -109,11 +100,7 @@ activity-length a = let k = place a in rw (← k.made) (row-length k.row k.right
 -- the longest record has 15 bytes, or is CR and has 21
 pub size_most : (a : Activity) → size_of a ≤ 15 + 6 * residue_one a
 unfolding total
-size_most (Fuel kind grams) = lit≤ tt
-size_most (Vehicles kind count average rate) = lit≤ tt
-size_most (Nitrogen source crop grams content) = lit≤ tt
-size_most (Lime material grams) = lit≤ tt
-size_most (Residue r) = lit≤ tt
+size_most a = grind arith
 
 -- bytes long enough for a mark
 pub activity-is : (s : List ℕ) → 2 ≤ length s → activity s ≡ activity_under (number (take 2 s)) (drop 2 s)
@@ -136,8 +123,7 @@ pub activity_took : (s : List ℕ) {a : Activity} {t : List ℕ} → activity s 
 activity_took s q =
     let h = activity-long s q in
     let (l, r, e, k) = under-row _ _ (sym (activity-is s h) ∙ q) in
-    let (own, took) = row_took l r (drop 2 s) k in
-    rw own (omega (arith, rw length-drop at took))
+    grind (arith, row_took l r (drop 2 s) k, length-drop {A = ℕ})
 
 pub under_range : (m : ℕ) (s : List ℕ) {a : Activity} {t : List ℕ} → activity_under m s ≡ accepted a t → ActivityInRange a
 under_range m s q = let k = under-row m s q in row_range k.0 s k.3

@@ -1,12 +1,6 @@
 -- Lists of causes: what a computed test says of each, and which lists are parts of others.
 -- Assumes nothing.
-use Prim.Native.Nat.{ℕ, ◌<◌}
-use mathlib.Core.Path.{◌≡◌, refl}
-use mathlib.Core.Bool.{Bool, true, false, cond}
-use mathlib.Core.Logic.{inl, inr}
-use mathlib.Core.List.{List, [], ◌∷◌, ◌++◌}
-use borrow.Author.Tests.{eq-eqb}
-use lib.Dec.{T, eqb, eqb→eq, ltb, ltb→lt}
+use Rattle.std.proofs.Common.{ℕ, ◌<◌, refl, Bool, true, false, cond, List, [], ◌∷◌, ◌++◌, eq-eqb, T, eqb, eqb→eq, ltb, ltb→lt, arith}
 use Rattle.dossier.specs.Causes.{plan_not_of_form, record_repeated, causes, opening_causes, year_causes, ◌∈◌}
 
 -- whether n is one of these
@@ -16,11 +10,7 @@ member n (c ∷ rest) = cond (eqb n c) true (member n rest)
 
 pub listed : (n : ℕ) (l : List ℕ) → T (member n l) → n ∈ l
 listed n [] t = t
-listed n (c ∷ rest) t = go (eqb n c) (eqb→eq n c) t (listed n rest)
-  where
-    go : (b : Bool) → (T b → n ≡ c) → T (cond b true (member n rest)) → (T (member n rest) → n ∈ rest) → n ∈ (c ∷ rest)
-    go true e t ih = inl (e tt)
-    go false e t ih = inr (ih t)
+listed n (c ∷ rest) t = grind (arith, eqb→eq, listed n rest)
 
 -- whether the test holds of each of these
 abbrev each : (ℕ → Bool) → List ℕ → Bool
@@ -29,12 +19,7 @@ each f (c ∷ rest) = cond (f c) (each f rest) false
 
 passes : (f : ℕ → Bool) (l : List ℕ) → T (each f l) → (n : ℕ) → n ∈ l → T (f n)
 passes f [] t n h = absurd h
-passes f (c ∷ rest) t n h = go (f c) refl t h (λ u. passes f rest u n)
-  where
-    go : (b : Bool) → f c ≡ b → T (cond b (each f rest) false) → n ∈ (c ∷ rest) → (T (each f rest) → n ∈ rest → T (f n)) → T (f n)
-    go true e t (inl q) ih = rw (q, e) tt
-    go true e t (inr h) ih = ih t h
-    go false e t h ih = absurd t
+passes f (c ∷ rest) t n h = grind (arith, passes f rest)
 
 -- a list whose entries are all in another is a part of it
 pub part : (l m : List ℕ) → T (each (λ n. member n m) l) → (n : ℕ) → n ∈ l → n ∈ m

@@ -1,22 +1,15 @@
 -- Which causes each judgement refuses for: the opening its own, a year its own, a dossier those of both.
 -- Assumes nothing.
-use Prim.Native.Nat.{ℕ}
-use mathlib.Core.Path.{◌≡◌, refl}
-use mathlib.Core.Bool.{Bool, true, false, cond}
+use Rattle.std.proofs.Common.{ℕ, ◌≡◌, Bool, List, [], ◌∷◌, arith}
 use mathlib.Core.Option.{Option}
-use mathlib.Core.List.{List, [], ◌∷◌}
-use lib.Dec.{ltb, eqb}
-use lib.ListN.{length, take, drop}
 use Rattle.activity.specs.Records.{Activity}
-use Rattle.wire.specs.Bytes.{number}
 use Rattle.dossier.specs.Causes.{bytes_missing, mark_not_due, activity_out_of_range, too_many_activities, opening_causes, year_causes, ◌∈◌}
 use Rattle.dossier.specs.Marks.{mark_en}
 use Rattle.dossier.specs.Plan.{Plan}
 use Rattle.dossier.specs.Records.{Due}
-use Rattle.dossier.specs.Reader.{Judged, refused, accepted, Reader, after, ◌>>=◌, ◌>>◌, give, refuse, mark, stands, upon, present, begin, field, fields, nothing, end_of_piece, followed}
+use Rattle.dossier.specs.Reader.{refused, accepted, Reader, ◌>>=◌, ◌>>◌, give, refuse, mark, upon, present, begin, field, fields, nothing, end_of_piece, followed}
 use Rattle.dossier.specs.Judging.{another, dossier, opening_piece, year_piece}
 use Rattle.dossier.specs.JudgingPlan.{plan_end}
-use Rattle.dossier.proofs.ReaderLaws.{never}
 use Rattle.dossier.proofs.CauseLaws.{listed, dossier_causes, opening_part, year_part}
 use Rattle.dossier.proofs.Walk.{Closed, openings, one_activity, a-year, some_years}
 
@@ -26,18 +19,11 @@ Numbered allowed r = (s : List ℕ) (n : ℕ) → r s ≡ refused n → n ∈ al
 
 -- ---- the steps, where every one of them may miss bytes or find a mark not due
 module _ (allowed : List ℕ) (missing : bytes_missing ∈ allowed) (due : mark_not_due ∈ allowed) where
-  said : {A : Type 0} (m n : ℕ) → ◌≡◌ {A = Judged A} (refused m) (refused n) → m ∈ allowed → n ∈ allowed
-  said m n e c = let z : m ≡ n = cc in rw z at c
-
   -- with what is told of each value that r accepts
   told : {A B : Type 0} {r : Reader A} {k : A → Reader B} → Numbered allowed r → ((a : A) (s t : List ℕ) → r s ≡ accepted a t → Numbered allowed (k a))
       → Numbered allowed (r >>= k)
   unfolding followed
-  told {A} {B} {r} {k} x f s n e = go (r s) refl e
-    where
-      go : (j : Judged A) → r s ≡ j → after j k ≡ refused n → n ∈ allowed
-      go (refused m) h e = said m n e (x s m h)
-      go (accepted a t) h e = f a s t h t n e
+  told x f s n e = grind (arith, x s, f)
 
   bind : {A B : Type 0} {r : Reader A} {k : A → Reader B} → Numbered allowed r → ((a : A) → Numbered allowed (k a)) → Numbered allowed (r >>= k)
   bind x y = told x (λ a s t e. y a)
@@ -48,71 +34,46 @@ module _ (allowed : List ℕ) (missing : bytes_missing ∈ allowed) (due : mark_
 
   choice : {A : Type 0} {r q : Reader A} (kind : ℕ → Bool) → Numbered allowed r → Numbered allowed q → Numbered allowed (upon kind r q)
   unfolding upon
-  choice {A} {r} {q} kind x y s n e = go (stands kind s) e
-    where
-      go : (b : Bool) → cond b (r s) (q s) ≡ refused n → n ∈ allowed
-      go true e = x s n e
-      go false e = y s n e
+  choice kind x y s n e = grind (arith, x s, y s)
 
   given : {A : Type 0} (a : A) → Numbered allowed (give a)
   unfolding give
-  given a s n e = never a s n e
+  given a s n e = cc
 
   refusal : {A : Type 0} (m : ℕ) → m ∈ allowed → Numbered allowed (refuse {A = A} m)
   unfolding refuse
-  refusal m c s n e = said m n e c
-
-  -- a test, with m on either side
-  tested : {A : Type 0} (b : Bool) (m : ℕ) (j : Judged A) (n : ℕ) → m ∈ allowed → (j ≡ refused n → n ∈ allowed) → cond b (refused m) j ≡ refused n → n ∈ allowed
-  tested true m j n c f e = said m n e c
-  tested false m j n c f e = f e
-
-  passed : {A : Type 0} (b : Bool) (m : ℕ) (j : Judged A) (n : ℕ) → m ∈ allowed → (j ≡ refused n → n ∈ allowed) → cond b j (refused m) ≡ refused n → n ∈ allowed
-  passed true m j n c f e = f e
-  passed false m j n c f e = said m n e c
+  refusal m c s n e = grind (arith, c)
 
   marks : (m : ℕ) → Numbered allowed (mark m)
   unfolding mark
-  marks m s n e = tested (ltb (length s) 2) bytes_missing _ n missing (passed (eqb (number (take 2 s)) m) mark_not_due _ n due (never tt (drop 2 s) n)) e
+  marks m s n e = grind (arith, missing, due)
 
   presents : (k : ℕ) → Numbered allowed (present k)
   unfolding present
-  presents k s n e = tested (ltb (length s) k) bytes_missing _ n missing (never tt s n) e
+  presents k s n e = grind (arith, missing)
 
   a-field : (w : ℕ) → Numbered allowed (field w)
   unfolding field
-  a-field w s n e = never _ _ n e
+  a-field w s n e = cc
 
   some_fields : (k w : ℕ) → Numbered allowed (fields k w)
   unfolding fields
-  some_fields k w s n e = never _ _ n e
+  some_fields k w s n e = cc
 
   nothings : Numbered allowed nothing
   unfolding nothing
-  nothings s n e = tested (ltb 0 (length s)) mark_not_due _ n due (never tt s n) e
+  nothings s n e = grind (arith, due)
 
   piece_ends : Numbered allowed end_of_piece
   unfolding end_of_piece
-  piece_ends s n e = tested (eqb (length s) 1) bytes_missing (nothing s) n missing (nothings s n) e
+  piece_ends s n e = grind (arith, missing, nothings s)
 
   -- however many bytes there are
   abbrev AlwaysNumbered : (A : Type 0) → ℕ → Reader A → Type 0
   AlwaysNumbered A m r = Numbered allowed r
 
   numbered : Closed (λ n. n ∈ allowed) AlwaysNumbered
-  numbered = record {
-    bind = λ x y. bind x y;
-    told = λ x h f. told x (λ a s t e. (f a s t e).1);
-    more = λ x h. x;
-    choice = λ kind x y h. choice kind x y;
-    present = λ x h. seq (presents _) x;
-    give = λ a. given a;
-    refuse = λ n h. refusal n h;
-    field = λ w. a-field w;
-    fields = λ k w. some_fields k w;
-    mark = λ m. marks m;
-    nothing = nothings;
-  }
+  numbered = grind (arith, told, choice, seq, presents, given, refusal, a-field, some_fields, marks, nothings)
 
   -- ---- one activity record, any other's beginning, and the end of a plan
   an_activity : activity_out_of_range ∈ allowed → too_many_activities ∈ allowed → (before : List Activity) → Numbered allowed (another before)

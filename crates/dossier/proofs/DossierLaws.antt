@@ -1,13 +1,7 @@
 -- The years and EN, the dossier, and the pieces: what is accepted is exactly the encoding of records in range.
 -- Assumes nothing.
-use Prim.Native.Nat.{ℕ, zero, suc, ◌+◌, ◌≤◌}
-use mathlib.Core.Path.{◌≡◌, refl, ◌∙◌, ap, sym}
-use mathlib.Core.Bool.{Bool, true, false, cond}
+use Rattle.std.proofs.Common.{ℕ, zero, suc, ◌+◌, ◌≤◌, ◌≡◌, refl, ◌∙◌, ap, sym, List, [], ◌∷◌, ◌++◌, map, append_assoc, append-nil, arith, lit<, length, length-append}
 use mathlib.Core.Option.{Option}
-use mathlib.Core.List.{List, [], ◌∷◌, ◌++◌, map, append_assoc, append-nil}
-use native.Mathlib.Omega.{arith}
-use lib.Dec.{lit<}
-use lib.ListN.{length, length-append}
 use Rattle.classes.specs.Classes.{greatest_area}
 use Rattle.figures.specs.Year.{Year}
 use Rattle.figures.specs.Reckoning.{after_figures, after_year}
@@ -16,11 +10,11 @@ use Rattle.dossier.specs.Marks.{mark_yr, mark_pl, mark_en}
 use Rattle.dossier.specs.Plan.{Plan, PlanLent}
 use Rattle.dossier.specs.Records.{Opening, OpeningInRange, opening_bytes, terms_of, state_of, Due, first_due, next, YearInRange, year_bytes, YearsInRange, Dossier, DossierInRange, dossier_bytes}
 use Rattle.dossier.specs.Claims.{DueInRange}
-use Rattle.dossier.specs.Reader.{accepted, after, give, mark, is, stands, upon, nothing, followed}
+use Rattle.dossier.specs.Reader.{accepted, give, is, upon, followed}
 use Rattle.dossier.specs.JudgingRecords.{activity_mark}
-use Rattle.dossier.specs.Judging.{none_left, year, end, years, dossier, opening_piece, year_piece}
+use Rattle.dossier.specs.Judging.{year, end, years, dossier, opening_piece, year_piece}
 use Rattle.wire.proofs.BytesLaws.{bytes_after, length-bytes, take-bytes}
-use Rattle.dossier.proofs.ReaderLaws.{step, was, mark-only, nothing-only}
+use Rattle.dossier.proofs.ReaderLaws.{step, mark-only, nothing-only}
 use Rattle.dossier.proofs.Refusals.{end_there}
 use Rattle.dossier.proofs.Exact.{Exact}
 use Rattle.dossier.proofs.ExactParts.{Any, sub_then, last_then, recoded, piece_exact}
@@ -34,14 +28,7 @@ end-yes = end_there (bytes 2 mark_en ++ []) (simp (length-append, length-bytes) 
 
 end-only : (s : List ℕ) → Bytes s → {x : Unit {0}} {t : List ℕ} → end s ≡ accepted x t → (s ≡ bytes 2 mark_en) × (t ≡ [])
 unfolding end upon followed
-end-only s bs {x} {t} q = go (stands (is mark_yr) s) q
-  where
-    go : (h : Bool) → cond h (none_left s) (after (mark mark_en s) (λ _. nothing)) ≡ accepted x t → (s ≡ bytes 2 mark_en) × (t ≡ [])
-    go true q = absurd (none_left-only s bs x t q)
-    go false q =
-        let f = step (mark mark_en s) (λ _. nothing) q in
-        let g = nothing-only f.1 f.3 in
-        (mark-only mark_en s bs f.2 ∙ ap (λ (l : List ℕ). bytes 2 mark_en ++ l) g.0 ∙ append-nil (bytes 2 mark_en), g.1)
+end-only s bs {x} {t} q = grind (arith, none_left-only {A = Unit {0}} s bs, mark-only, nothing-only, append-nil)
 
 -- ---- the years
 pub years_bytes : List Year → List ℕ
@@ -67,8 +54,7 @@ room_next y due r = record { years = omega arith; start = r.start; beltstart = r
 
 pub room-opening : (plan : Option Plan) → PlanLent plan → (o : Opening) → OpeningInRange o → (k : ℕ) → k ≤ o.head.years → Room k (first_due plan o)
 unfolding first_due terms_of state_of
-room-opening plan lent o p k h =
-    record { years = omega (arith, p.head); start = omega (arith, p.project_areas.totals); beltstart = omega (arith, p.belt_areas.totals); plan = lent }
+room-opening plan lent o p k h = grind arith
 
 -- what is due after years
 pub due_after : List Year → Due → Due
@@ -104,14 +90,12 @@ years-step k due before s e = rw e
 pub years_continue : (l : List Year) (k n : ℕ) → n ≡ length l + k → (due : Due) → Room n due → (before : List Year) (t : List ℕ) → YearsInRange due l → Beyond t
     → years n due before (joined (map year_bytes l) ++ t) ≡ years k (due_after l due) (before ++ l) t
 unfolding joined due_after
-years_continue [] k n e due r before t p o = let z : n ≡ k = omega arith in rw (z, append-nil)
+years_continue [] k n e due r before t p o = grind (arith, append-nil)
 years_continue (y ∷ l) k zero e due r before t p o = absurd (omega arith)
 years_continue (y ∷ l) k (suc n) e due r before t p o =
     let u = joined (map year_bytes l) ++ t in
     let x = (year_exact due (room-due due r)).reads y u tt (p.0, follows y.planned y.activities u (next_beyond l t o)) in
-    let i = years_continue l k n (omega arith) (next y due) (room_next y due r) (before ++ (y ∷ [])) t p.1 o in
-    let a = append_assoc before (y ∷ []) l in
-    rw append_assoc (years-step n due before (year_bytes y ++ u) x ∙ i ∙ ap (λ (m : List Year). years k (due_after l (next y due)) m t) a)
+    grind (arith, append_assoc, years-step, years_continue l k n (omega arith) (next y due) (room_next y due r) (before ++ (y ∷ [])) t p.1 o)
 
 years-reads : (k : ℕ) (due : Due) → Room k due → (before l : List Year) → length l ≡ k → YearsInRange due l → years k due before (years_bytes l ++ []) ≡ accepted (before ++ l) []
 unfolding years_bytes
@@ -130,33 +114,20 @@ record ReadYears (k : ℕ) (due : Due) (before : List Year) (s : List ℕ) (all 
 
 years-none : (due : Due) (before : List Year) (s : List ℕ) (all : List Year) (u t : List ℕ) → s ≡ bytes 2 mark_en → u ≡ [] → accepted before u ≡ accepted all t → ReadYears 0 due before s all t
 unfolding years_bytes joined
-years-none due before s all u t e n q =
-    let z : t ≡ [] = sym (was q).1 ∙ n in
-    record { more = []; whole = sym (was q).0 ∙ sym (append-nil before); count = refl; each = tt; over = z; encoded = e ∙ rw (z, append-nil) }
+years-none due before s all u t e n q = grind (arith, append-nil)
 
 years-more : (k : ℕ) (due : Due) (before : List Year) (s : List ℕ) (y : Year) (u : List ℕ) (all : List Year) (t : List ℕ) → YearInRange due y → s ≡ year_bytes y ++ u
     → ReadYears k (next y due) (before ++ (y ∷ [])) u all t → ReadYears (suc k) due before s all t
-years-more k due before s y u all t p e r = record {
-  more = y ∷ r.more;
-  whole = r.whole ∙ append_assoc before (y ∷ []) r.more;
-  count = ap suc r.count;
-  each = (p, r.each);
-  over = r.over;
-  encoded = e ∙ ap (λ (x : List ℕ). year_bytes y ++ x) r.encoded ∙ sym (years-cons y r.more t);
-}
+years-more k due before s y u all t p e r = grind (arith, append_assoc, years-cons)
 
 years-only : (k : ℕ) (due : Due) → Room k due → (before : List Year) (s : List ℕ) → Bytes s → (all : List Year) (t : List ℕ) → years k due before s ≡ accepted all t
     → ReadYears k due before s all t
 unfolding years give followed
-years-only zero due r before s bs all t q =
-    let f = step (end s) (λ _. give before) q in
-    let e = end-only s bs f.2 in
-    years-none due before s all f.1 t e.0 e.1 f.3
+years-only zero due r before s bs all t q = grind (arith, end-only, years-none due before s)
 years-only (suc k) due r before s bs all t q =
-    let f = step (year due s) (λ y. years k (next y due) (before ++ (y ∷ []))) q in
-    let x = (year_exact due (room-due due r)).only s bs (omega arith) f.0 f.1 f.2 in
-    let b = bytes_after (year_bytes f.0) f.1 (rw x.2 at bs) in
-    years-more k due before s f.0 f.1 all t x.1.0 x.2 (years-only k (next f.0 due) (room_next f.0 due r) (before ++ (f.0 ∷ [])) f.1 b all t f.3)
+    let (y, u, e, f) = step (year due s) (λ y. years k (next y due) (before ++ (y ∷ []))) q in
+    let x = (year_exact due (room-due due r)).only s bs (omega arith) y u e in
+    years-more k due before s y u all t x.1.0 x.2 (years-only k (next y due) (room_next y due r) (before ++ (y ∷ [])) u (bytes_after (year_bytes y) u (rw x.2 at bs)) all t f)
 
 -- n years in range, EN, and nothing after it
 abbrev pub YearsThen : ℕ → Due → List Year → List ℕ → Type 0
@@ -164,8 +135,8 @@ YearsThen n due l t = (length l ≡ n) × YearsInRange due l × (t ≡ [])
 
 years_exact : (n : ℕ) (due : Due) → Room n due → Exact 0 Any (years n due []) years_bytes (YearsThen n due)
 years_exact n due r = record {
-  reads = λ l t c p. rw p.2 (years-reads n due r [] l p.0 p.1);
-  only = λ s bs h l t q. let g = years-only n due r [] s bs l t q in (tt, rw g.whole (g.count, g.each, g.over), rw g.whole g.encoded);
+  reads = λ l t c p. grind (arith, years-reads);
+  only = λ s bs h l t q. let g = years-only n due r [] s bs l t q in grind arith;
 }
 
 -- ---- the dossier

@@ -1,11 +1,6 @@
 -- Readers that accept exactly an encoding: one law for each step of a do block.
 -- Assumes nothing.
-use Prim.Native.Nat.{ℕ, ◌+◌, ◌*◌, ◌^◌, ◌<◌, ◌≤◌}
-use mathlib.Core.Path.{◌≡◌, refl, ◌∙◌, ap, sym}
-use mathlib.Core.List.{List, [], ◌++◌, append_assoc}
-use native.Mathlib.Omega.{arith}
-use lib.ListN.{length, take, drop, length-append, length-drop}
-use lib.Seq.{drop_at}
+use Rattle.std.proofs.Common.{ℕ, ◌+◌, ◌*◌, ◌^◌, ◌<◌, ◌≤◌, ◌≡◌, refl, ◌∙◌, List, [], ◌++◌, append_assoc, arith, length, take, drop, length-append, length-drop, drop_at}
 use Rattle.activity.specs.Activity.{Within}
 use Rattle.wire.specs.Bytes.{Bytes, number, bytes, numbers, bytes_of_each}
 use Rattle.dossier.specs.Reader.{accepted, Reader, ◌>>=◌, ◌>>◌, give, begin, field, fields, within, equal, followed}
@@ -21,13 +16,7 @@ pub record Exact {B : Type 0} (n : ℕ) (C : B → Type 0) (r : Reader B) (e : B
 module _ {B : Type 0} {C : B → Type 0} {P : B → List ℕ → Type 0} where
   pub done : (b₀ : B) → C b₀ → ((t : List ℕ) → P b₀ t) → ((b : B) (t : List ℕ) → C b → P b t → b ≡ b₀) → Exact 0 C (give b₀) (λ b. []) P
   unfolding give
-  done b₀ c p u = record {
-    reads = λ b t c p. ap (λ (x : B). accepted x t) (sym (u b t c p));
-    only = λ s bs h b t q.
-        let e : b₀ ≡ b = cc in
-        let f : s ≡ t = cc in
-        (rw e at c, rw e at (p t), f);
-  }
+  done b₀ c p u = grind arith
 
   -- a mark and at least n bytes
   pub begin-first : {r : Reader B} {e : B → List ℕ} (m n : ℕ) → m < 65536 → ((b : B) (t : List ℕ) → C b → P b t → n ≤ length (e b)) → Exact n C r e P
@@ -80,26 +69,23 @@ module _ {B : Type 0} {C : B → Type 0} {P : B → List ℕ → Type 0} where
         (g.0.0, g.1, split_each j w s bs (omega arith) ∙ rw (g.2, g.0.1, append_assoc));
   }
 
-  pub within_then : {n : ℕ} {r : Reader B} {e : B → List ℕ} (c low x high : ℕ) → ((b : B) (t : List ℕ) → C b → P b t → Within low x high)
-      → (Within low x high → Exact n C r e P) → Exact n C (within c low x high >> r) e P
+  -- a test that passes just where H holds, and a reader after it
+  pub test_then : {n : ℕ} {H : Type 0} {test : Reader (Unit {0})} {r : Reader B} {e : B → List ℕ} → ((s : List ℕ) → H → test s ≡ accepted tt s)
+      → ((s u : List ℕ) → test s ≡ accepted tt u → H × (s ≡ u)) → ((b : B) (t : List ℕ) → C b → P b t → H)
+      → (H → Exact n C r e P) → Exact n C (test >> r) e P
   unfolding followed
-  within_then {n} {r} {e} c low x high f g = record {
-    reads = λ b t k p.
-        let h = f b t k p in
-        rw (within-yes c low x high (e b ++ t) h) ((g h).reads b t k p);
+  test_then {test = test} {r = r} {e = e} passes passed f g = record {
+    reads = λ b t k p. let h = f b t k p in rw (passes (e b ++ t) h) ((g h).reads b t k p);
     only = λ s bs h b t q.
-        let k = step (within c low x high s) (λ _. r) q in
-        let i = within-only c low x high s k.2 in
+        let k = step (test s) (λ _. r) q in
+        let i = passed s k.1 k.2 in
         (g i.0).only s bs h b t (rw (← i.1) at k.3);
   }
 
+  pub within_then : {n : ℕ} {r : Reader B} {e : B → List ℕ} (c low x high : ℕ) → ((b : B) (t : List ℕ) → C b → P b t → Within low x high)
+      → (Within low x high → Exact n C r e P) → Exact n C (within c low x high >> r) e P
+  within_then c low x high = test_then (within-yes c low x high) (λ s u. within-only c low x high s)
+
   pub equal_then : {n : ℕ} {r : Reader B} {e : B → List ℕ} (c x y : ℕ) → ((b : B) (t : List ℕ) → C b → P b t → x ≡ y)
       → (x ≡ y → Exact n C r e P) → Exact n C (equal c x y >> r) e P
-  unfolding followed
-  equal_then {n} {r} {e} c x y f g = record {
-    reads = λ b t k p. let h = f b t k p in rw (equal-yes c x y (e b ++ t) h) ((g h).reads b t k p);
-    only = λ s bs h b t q.
-        let k = step (equal c x y s) (λ _. r) q in
-        let i = equal-only c x y s k.2 in
-        (g i.0).only s bs h b t (rw (← i.1) at k.3);
-  }
+  equal_then c x y = test_then (equal-yes c x y) (λ s u. equal-only c x y s)

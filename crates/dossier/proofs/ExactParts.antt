@@ -1,16 +1,11 @@
 -- Readers that accept exactly an encoding: readers made of others.
 -- Assumes nothing.
-use Prim.Native.Nat.{ℕ}
-use mathlib.Core.Path.{◌≡◌, refl, ◌∙◌, ap, sym}
-use mathlib.Core.Bool.{Bool, true, false, cond}
+use Rattle.std.proofs.Common.{ℕ, ◌≡◌, refl, ◌∙◌, Bool, true, false, List, [], ◌++◌, append_assoc, append-nil, arith}
 use mathlib.Core.Option.{Option, none, some}
-use mathlib.Core.List.{List, [], ◌++◌, append_assoc, append-nil}
-use native.Mathlib.Omega.{arith}
-use Rattle.wire.specs.Bytes.{Bytes}
 use Rattle.dossier.specs.Records.{bytes_if_any}
-use Rattle.dossier.specs.Reader.{accepted, Reader, after, ◌>>=◌, ◌>>◌, give, if_any, holds, end_of_piece, followed}
+use Rattle.dossier.specs.Reader.{Reader, ◌>>=◌, ◌>>◌, give, if_any, holds, end_of_piece, followed}
 use Rattle.wire.proofs.BytesLaws.{bytes_after}
-use Rattle.dossier.proofs.ReaderLaws.{step, was, cond_accepted}
+use Rattle.dossier.proofs.ReaderLaws.{step, was}
 use Rattle.dossier.proofs.Refusals.{piece_ends, piece_ends_only}
 use Rattle.dossier.proofs.Exact.{Exact}
 
@@ -41,17 +36,12 @@ module _ {B : Type 0} {C : B → Type 0} {P : B → List ℕ → Type 0} where
       → ((a : A) (t : List ℕ) → P' a t → C (make a) × P (make a) t × (get (make a) ≡ a)) → Exact 0 C (r >>= λ a. give (make a)) (λ b. e' (get b) ++ []) P
   unfolding followed give
   last_then {r = r} {e' = e'} get make x f g = record {
-    reads = λ b t c p.
-        let h = f b t c p in
-        rw (append-nil, x.reads (get b) t tt h.0, h.1);
+    reads = λ b t c p. let h = f b t c p in rw (append-nil, x.reads (get b) t tt h.0, h.1);
     only = λ s bs h b t q.
-        let i = step (r s) (λ a. give (make a)) q in
-        let j = x.only s bs (omega arith) i.0 i.1 i.2 in
-        let m : make i.0 ≡ b = (was i.3).0 in
-        let u : i.1 ≡ t = (was i.3).1 in
-        let l = rw u at (g i.0 i.1 j.1) in
-        let o : get b ≡ i.0 = rw m at l.2 in
-        (rw m at l.0, rw m at l.1, j.2 ∙ rw (append-nil, o, u));
+        let (a, u, i, o) = step (r s) (λ a. give (make a)) q in
+        let j = x.only s bs (omega arith) a u i in
+        let l = g a u j.1 in
+        (rw (was o).0 at l.0, grind arith, grind (arith, append-nil));
   }
 
 -- a value that may be absent, by a test of the bytes: none where it fails of what follows, some in range where it holds of its bytes
@@ -62,27 +52,7 @@ OptionThen there e P (some a) t = P a t × (there (e a ++ t) ≡ true)
 pub if_any_lem : {A : Type 0} {r : Reader A} {e : A → List ℕ} {P : A → List ℕ → Type 0} (there : List ℕ → Bool) → Exact 0 Any r e P
     → Exact 0 Any (if_any there r) (bytes_if_any e) (OptionThen there e P)
 unfolding if_any bytes_if_any followed give
-if_any_lem {A} {r} {e} {P} there x = record { reads = yes; only = λ s bs h m t q. only s bs m t (there s) refl q }
-  where
-    yes : (m : Option A) (t : List ℕ) → Any m → OptionThen there e P m t → if_any there r (bytes_if_any e m ++ t) ≡ accepted m t
-    yes none t c p = rw p
-    yes (some a) t c p = rw (p.1, x.reads a t tt p.0)
-
-    found : (s : List ℕ) → there s ≡ true → (m : Option A) (t : List ℕ) (a : A) (u : List ℕ) → some a ≡ m → u ≡ t → P a u → s ≡ e a ++ u
-        → Any m × OptionThen there e P m t × (s ≡ bytes_if_any e m ++ t)
-    found s h m t a u i j p k =
-        let l : there (e a ++ t) ≡ true = rw (← j, ← k) h in
-        rw (← i) (tt, (rw j at p, l), k ∙ ap (λ (v : List ℕ). e a ++ v) j)
-
-    only : (s : List ℕ) → Bytes s → (m : Option A) (t : List ℕ) (b : Bool) → there s ≡ b → cond b (after (r s) (λ a. give (some a))) (accepted none s) ≡ accepted m t
-        → Any m × OptionThen there e P m t × (s ≡ bytes_if_any e m ++ t)
-    only s bs m t true h q =
-        let i = step (r s) (λ a. give (some a)) q in
-        let j = x.only s bs (omega arith) i.0 i.1 i.2 in
-        found s h m t i.0 i.1 (was i.3).0 (was i.3).1 j.1 j.2
-    only s bs m t false h q =
-        let e : s ≡ t = (was q).1 in
-        rw (← (was q).0) (tt, rw e at h, e)
+if_any_lem {A} {r} {e} {P} there x = grind arith
 
 -- the same encoding, written otherwise
 pub recoded : {B : Type 0} {C : B → Type 0} {P : B → List ℕ → Type 0} {n : ℕ} {r : Reader B} {e e' : B → List ℕ} → ((b : B) → C b → e b ≡ e' b) → Exact n C r e P → Exact n C r e' P
@@ -95,40 +65,13 @@ recoded f x = record {
 pub piece_exact : {A : Type 0} {r : Reader A} {e : A → List ℕ} {P : A → List ℕ → Type 0} → Exact 0 Any r e P
     → Exact 0 Any (r >>= λ a. end_of_piece >> give a) e (λ a t. P a t × (t ≡ []))
 unfolding followed give
-piece_exact {A} {r} {e} {P} x = record {
-  reads = λ a t c p. rw (x.reads a t tt p.0) (ends_with a t p.1);
-  only = λ s bs h a t q.
-      let f = step (r s) (λ a. end_of_piece >> give a) q in
-      let g = x.only s bs h f.0 f.1 f.2 in
-      let k = step (end_of_piece f.1) (λ _. give f.0) f.3 in
-      let l = piece_ends_only f.1 k.2 in
-      let m = moved f.0 f.1 s a t g.1 g.2 (l.0 ∙ sym l.1 ∙ (was k.3).1) l.0 (was k.3).0 in
-      (tt, m.0, m.1);
-}
-  where
-    ends_with : (a : A) (t : List ℕ) → t ≡ [] → (end_of_piece >> give a) t ≡ accepted a t
-    ends_with a t p = rw (p, piece_ends [] (omega arith))
-
-    moved : (b : A) (u s : List ℕ) (a : A) (t : List ℕ) → P b u → s ≡ e b ++ u → u ≡ t → u ≡ [] → b ≡ a → (P a t × (t ≡ [])) × (s ≡ e a ++ t)
-    moved b u s a t p q ut n m =
-        let pa : P a u = rw m at p in
-        ((rw ut at pa, sym ut ∙ n), q ∙ rw (m, ut))
+piece_exact x = grind (arith, piece_ends, piece_ends_only)
 
 -- a test of what was read
 pub checked : {A : Type 0} {r : Reader A} {e : A → List ℕ} {P : A → List ℕ → Type 0} (c : ℕ) (test : A → Bool) → Exact 0 Any r e P
     → Exact 0 Any (r >>= λ a. holds c (test a) >> give a) e (λ a t. P a t × (test a ≡ true))
 unfolding followed give holds
-checked {A} {r} {e} {P} c test x = record {
-  reads = λ a t z p. rw (x.reads a t tt p.0, p.1);
-  only = λ s bs h a t q.
-      let f = step (r s) (λ a. holds c (test a) >> give a) q in
-      let g = x.only s bs h f.0 f.1 f.2 in
-      let k = step (holds c (test f.0) f.1) (λ _. give f.0) f.3 in
-      let l = cond_accepted (test f.0) c _ k.2 in
-      let m : f.0 ≡ a = (was k.3).0 in
-      let u : f.1 ≡ t = (was l.1).1 ∙ (was k.3).1 in
-      (tt, (rw (m, u) at g.1, rw m at l.0), g.2 ∙ rw (m, u));
-}
+checked {A} {r} {e} {P} c test x = grind arith
 
 -- the same range, said otherwise
 pub restated : {B : Type 0} {C : B → Type 0} {P Q : B → List ℕ → Type 0} {n : ℕ} {r : Reader B} {e : B → List ℕ} → ((b : B) (t : List ℕ) → P b t → Q b t)

@@ -1,11 +1,6 @@
 -- Edges, computed from the definitions alone.
 -- Assumes nothing.
-use Prim.Native.Nat.{ℕ}
-use mathlib.Core.Path.{◌≡◌, refl}
-use mathlib.Core.Bool.{true, false}
-use mathlib.Core.List.{List, [], ◌∷◌, ◌++◌, map}
-use lib.IntN.{pos}
-use lib.ListN.{take, set, replicate}
+use Rattle.std.proofs.Common.{ℕ, ◌≡◌, refl, true, false, List, [], ◌∷◌, ◌++◌, map, pos, take, set, replicate}
 use Rattle.arithmetic.specs.Sum.{sum, listed}
 use Rattle.arithmetic.specs.Rounding.{ceil_div}
 use Rattle.classes.specs.Classes.{class_nf, carbon_stocks, deforestation_probabilities}

@@ -1,19 +1,14 @@
 -- Any row of the table of activity records: what is accepted after its mark is exactly its records in range.
 -- Assumes nothing.
-use Prim.Native.Nat.{ℕ, ◌+◌, ◌^◌, ◌<◌, ◌≤◌}
-use mathlib.Core.Path.{◌≡◌, refl, ◌∙◌, ap, sym}
-use mathlib.Core.List.{List, [], ◌∷◌, ◌++◌, append_assoc}
-use native.Mathlib.Omega.{arith}
-use lib.ListN.{length, take, drop, length-append, length-drop}
-use lib.Seq.{drop-drop}
+use Rattle.std.proofs.Common.{ℕ, ◌+◌, ◌^◌, ◌<◌, ◌≤◌, ◌≡◌, refl, ◌∙◌, ap, List, [], ◌∷◌, ◌++◌, append_assoc, arith, length, take, drop, length-append, length-drop, drop-drop}
 use Rattle.activity.specs.Records.{Activity}
 use Rattle.activity.specs.Activity.{Range, ranges, InRanges, ActivityInRange}
 use Rattle.wire.specs.Bytes.{Bytes, number, bytes, total}
 use Rattle.dossier.specs.Layouts.{Made, Layout, layout_of, in_fields, activity_bytes}
-use Rattle.dossier.specs.Reader.{accepted, give, present, field, within, followed}
+use Rattle.dossier.specs.Reader.{accepted, give, field, followed}
 use Rattle.dossier.specs.JudgingRecords.{in_range, made_from, fields_of}
 use Rattle.wire.proofs.BytesLaws.{length-bytes, bytes_drop, split, take-bytes, drop-bytes}
-use Rattle.dossier.proofs.ReaderLaws.{step, was, present-yes, present-only, within-yes, within-only}
+use Rattle.dossier.proofs.ReaderLaws.{present-yes, present-only, within-yes, within-only}
 
 -- a number for each field
 abbrev pub Numbers : List ℕ → Type 0
@@ -56,12 +51,8 @@ in_range-reads (r ∷ rest) a t p = rw (within-yes 8 r.low r.number r.high t p.0
 
 in_range-only : (rs : List Range) (b : Activity) (s : List ℕ) {a : Activity} {t : List ℕ} → in_range rs b s ≡ accepted a t → InRanges rs × (b ≡ a) × (s ≡ t)
 unfolding in_range give followed
-in_range-only [] b s q = (tt, (was q).0, (was q).1)
-in_range-only (r ∷ rest) b s q =
-    let f = step (within 8 r.low r.number r.high s) (λ _. in_range rest b) q in
-    let g = within-only 8 r.low r.number r.high s f.2 in
-    let h = in_range-only rest b f.1 f.3 in
-    ((g.0, h.0), h.1, g.1 ∙ h.2)
+in_range-only [] b s q = grind arith
+in_range-only (r ∷ rest) b s q = grind (arith, within-only, in_range-only rest b)
 
 -- ---- the fields
 -- the numbers that stand in them
@@ -104,11 +95,7 @@ module _ (l : Layout) where
   pub row_reads : Right l → (xs : Numbers l.widths) (t : List ℕ) → ActivityInRange (record_of l.widths l.made xs)
       → fields_of l (field_bytes l.widths xs ++ t) ≡ accepted (record_of l.widths l.made xs) t
   unfolding fields_of followed
-  row_reads r xs t p =
-      let s = field_bytes l.widths xs ++ t in
-      let h : total l.widths ≤ length s = rw (length-append, length_fields l.widths xs) (omega arith) in
-      rw (present-yes (total l.widths) s h, made-is l.widths l.made s, numbers_at-fields l.widths xs t (r.fit xs p), drop-fields)
-      (in_range-reads _ _ t p)
+  row_reads r xs t p = grind (arith, length-append, length_fields, present-yes, made-is, numbers_at-fields, drop-fields, in_range-reads)
 
   -- an accepted record is in range, and made of the numbers that stand there
   record Accepted (s : List ℕ) (a : Activity) (t : List ℕ) : Type 0 where
@@ -119,26 +106,17 @@ module _ (l : Layout) where
 
   row-accepted : (s : List ℕ) {a : Activity} {t : List ℕ} → fields_of l s ≡ accepted a t → Accepted s a t
   unfolding fields_of followed
-  row-accepted s {a} {t} q =
-      let f = step (present (total l.widths) s) (λ _. made_from l.widths l.made) q in
-      let g = present-only (total l.widths) s f.2 in
-      let q : made_from l.widths l.made s ≡ accepted a t = rw g.1 f.3 in
-      let i = in_range-only _ _ _ (sym (made-is l.widths l.made s) ∙ q) in
-      record { range = rw i.1 at i.0; long = g.0; made = i.1; left = i.2 }
+  row-accepted s {a} {t} q = grind (arith, present-only, in_range-only, made-is)
 
   pub row_range : (s : List ℕ) {a : Activity} {t : List ℕ} → fields_of l s ≡ accepted a t → ActivityInRange a
   row_range s q = (row-accepted s q).range
 
   pub row-only : Right l → (s : List ℕ) → Bytes s → {a : Activity} {t : List ℕ} → fields_of l s ≡ accepted a t → bytes 2 l.mark ++ s ≡ activity_bytes a ++ t
-  row-only r s bs q =
-      let k = row-accepted s q in
-      ap (λ (u : List ℕ). bytes 2 l.mark ++ u) (fields-numbers_at l.widths s bs k.long) ∙ rw (k.left, ← append_assoc, ← r.bytes _, k.made)
+  row-only r s bs q = grind (arith, row-accepted, fields-numbers_at, append_assoc)
 
   -- its record is the row's own, and its fields were taken
   pub row_took : Right l → (s : List ℕ) {a : Activity} {t : List ℕ} → fields_of l s ≡ accepted a t → (layout_of a ≡ l) × (length s ≡ total l.widths + length t)
-  row_took r s q =
-      let k = row-accepted s q in
-      (rw (← k.made) (r.own _), rw (← k.left, length-drop) (omega (arith, k.long)))
+  row_took r s q = grind (arith, row-accepted, length-drop {A = ℕ})
 
   pub row-length : Right l → (xs : Numbers l.widths) → let a = record_of l.widths l.made xs in length (activity_bytes a) ≡ size_of a
   row-length r xs = rw (r.bytes xs, r.own xs, length-append, length-bytes, length_fields l.widths xs)

@@ -1,13 +1,7 @@
 -- #106: "The longest dossier is now 65,328 bytes, ST included."
 -- Assumes nothing.
-use Prim.Native.Nat.{ℕ, zero, suc, ◌+◌, ◌*◌, ◌≤◌}
-use mathlib.Core.Path.{◌≡◌, refl, ap, sym}
-use mathlib.Core.Bool.{Bool, true, false}
+use Rattle.std.proofs.Common.{ℕ, zero, suc, ◌+◌, ◌*◌, ◌≤◌, ◌≡◌, refl, Bool, false, List, [], ◌∷◌, map, arith, lit≤, length, length-append, replicate}
 use mathlib.Core.Option.{Option, none, some}
-use mathlib.Core.List.{List, [], ◌∷◌, map}
-use native.Mathlib.Omega.{arith}
-use lib.Dec.{lit≤}
-use lib.ListN.{length, get_or, length-append, replicate}
 use Rattle.arithmetic.specs.Sum.{listed}
 use Rattle.classes.specs.Classes.{carbon_stocks, deforestation_probabilities}
 use Rattle.classes.specs.Matrix.{option_one, option_one_matrix}
@@ -16,38 +10,14 @@ use Rattle.classes.proofs.FactorLaws.{built_in_le}
 use Rattle.classes.proofs.MatrixLaws.{option_one-rows}
 use Rattle.activity.specs.Records.{Activity}
 use Rattle.activity.specs.Records.Activity.{Vehicles}
-use Rattle.activity.specs.Activity.{ActivitiesInRange, residue_one, residues, NoneOf, AllDifferent, RunInRange}
+use Rattle.activity.specs.Activity.{ActivitiesInRange, residues, NoneOf, AllDifferent, RunInRange}
 use Rattle.figures.specs.Year.{Year}
 use Rattle.figures.specs.Reckoning.{after_figures, after_year}
 use Rattle.wire.specs.Bytes.{Bytes, bytes, bytes_of_each, joined, total}
-use Rattle.dossier.specs.Layouts.{residue_of, numbers_of, activity_bytes}
+use Rattle.dossier.specs.Layouts.{residue_of, activity_bytes}
 use Rattle.dossier.specs.Plan.{Plan, PlanLent}
-use Rattle.dossier.specs.Records.{
-  head_bytes,
-  stocks_bytes,
-  StocksFiled,
-  areas_bytes,
-  matrix_bytes,
-  MatrixUnder,
-  Opening,
-  OpeningInRange,
-  bytes_if_any,
-  opening_bytes,
-  terms_of,
-  state_of,
-  Due,
-  first_due,
-  next,
-  conversions_bytes,
-  RecordsInRange,
-  records_bytes,
-  YearInRange,
-  year_bytes,
-  YearsInRange,
-  Dossier,
-  DossierInRange,
-  dossier_bytes,
-}
+use Rattle.dossier.specs.Records.{head_bytes, stocks_bytes, StocksFiled, areas_bytes, matrix_bytes, MatrixUnder, Opening, OpeningInRange, bytes_if_any, opening_bytes, terms_of, state_of}
+use Rattle.dossier.specs.Records.{Due, first_due, next, conversions_bytes, RecordsInRange, records_bytes, YearInRange, year_bytes, YearsInRange, Dossier, DossierInRange, dossier_bytes}
 use Rattle.dossier.specs.Reader.{accepted}
 use Rattle.dossier.specs.Judging.{dossier}
 use Rattle.wire.proofs.BytesLaws.{length-bytes, length-each}
@@ -63,52 +33,34 @@ run_length (a ∷ l) = let h = activity-length a in let m = size_most a in let k
 
 records_length : (from_plan : Option (List Activity)) (planned : Bool) (l : List Activity) → RecordsInRange from_plan planned l → length (records_bytes planned l) ≤ 912
 unfolding records_bytes
-records_length from_plan false l p = let h = run_length l in omega (arith, p.count, p.residue_count)
-records_length from_plan true l p = simp length-bytes (omega arith)
+records_length from_plan planned l p = grind (arith, length-bytes, run_length)
 
 year-length : (due : Due) (y : Year) → YearInRange due y → length (year_bytes y) ≤ 3226
 unfolding year_bytes conversions_bytes joined
-year-length due y p =
-    let r = records_length _ y.planned y.activities p.records in
-    let a = p.conversions.count in
-    let b = p.belt_conversions.count in
-    simp lengths (omega arith)
+year-length due y p = grind (arith, records_length, length-append {A = ℕ}, length-bytes, length-each)
 
 years-length : (due : Due) (l : List Year) → YearsInRange due l → length (joined (map year_bytes l)) ≤ length l * 3226
 unfolding joined
-years-length due [] p = omega arith
-years-length due (y ∷ l) p =
-    let h = year-length due y p.0 in
-    let k = years-length (next y due) l p.1 in
-    simp length-append (omega arith)
+years-length due [] p = grind arith
+years-length due (y ∷ l) p = grind (arith, year-length, length-append, years-length (next y due) l p.1)
 
 stocks-length : (m : Option (List ℕ)) → StocksFiled m → length (bytes_if_any stocks_bytes m) ≤ 26
 unfolding bytes_if_any stocks_bytes joined
 stocks-length none p = omega arith
-stocks-length (some xs) p = let h = p.twelve in simp lengths (omega arith)
+stocks-length (some xs) p = grind (arith, length-append {A = ℕ}, length-bytes, length-each)
 
 matrix-length : (option : ℕ) (m : Option (List ℕ)) → MatrixUnder option m → length (bytes_if_any matrix_bytes m) ≤ 578
 unfolding bytes_if_any matrix_bytes joined
 matrix-length option none p = omega arith
-matrix-length option (some xs) p = let h = p.1.count in simp lengths (omega arith)
+matrix-length option (some xs) p = grind (arith, length-append {A = ℕ}, length-bytes, length-each)
 
 opening-length : (o : Opening) → OpeningInRange o → length (opening_bytes o) ≤ 806
 unfolding opening_bytes head_bytes areas_bytes joined
-opening-length o p =
-    let s = stocks-length o.stocks p.stocks in
-    let m = matrix-length o.head.option o.matrix p.matrix in
-    let a = p.project_areas.twelve in
-    let b = p.belt_areas.twelve in
-    simp lengths (omega arith)
+opening-length o p = grind (arith, stocks-length, matrix-length, length-append {A = ℕ}, length-bytes, length-each)
 
 dossier-length : (plan : Option Plan) (d : Dossier) → DossierInRange plan d → length (dossier_bytes d) ≤ 65328
 unfolding dossier_bytes joined
-dossier-length plan d p =
-    let o = opening-length d.opening p.opening in
-    let y = years-length _ d.years p.years in
-    let c = p.count in
-    let n = p.opening.head.count in
-    simp (length-append, length-bytes) (omega arith)
+dossier-length plan d p = grind (arith, opening-length, years-length, length-append, length-bytes)
 
 -- of accepted bytes, whatever the plan
 pub longest : (plan : Option Plan) → PlanLent plan → (s : List ℕ) → Bytes s → (d : Dossier) (rest : List ℕ) → dossier plan s ≡ accepted d rest → length s ≤ 65328
@@ -169,10 +121,10 @@ fleets-different (suc k) = (fleet_none k k (omega arith), fleets-different k)
 -- CR and VE by what they are, two of CR by their areas
 residue-none : (k area : ℕ) → NoneOf (fleets k) (residue_on area)
 residue-none zero area = tt
-residue-none (suc k) area = ((λ e. let one : ◌≡◌ {A = ℕ} 1 0 = ap residue_one e in omega arith), residue-none k area)
+residue-none (suc k) area = ((λ e. cc), residue-none k area)
 
 areas-differ : residue_on 1 ≡ residue_on 2 → ⊥
-areas-differ e = let same : ◌≡◌ {A = ℕ} 1 2 = ap (λ (a : Activity). get_or (numbers_of a) 1 0) e in omega arith
+areas-differ e = grind arith
 
 pub sixty-in_range : RunInRange sixty
 sixty-in_range = record {
@@ -185,19 +137,8 @@ sixty-in_range = record {
 longest_years_lem : (k : ℕ) (due : Due) → due.state.left ≡ k → due.terms.start.0 ≡ 1 → due.terms.beltstart.0 ≡ 0
     → YearsInRange due (longest_years k due.state.year)
 unfolding next after_year after_figures total
-longest_years_lem zero due l p b = tt
-longest_years_lem (suc k) due l p b = (
-  record {
-    left = omega arith;
-    year = refl;
-    days = omega (arith, days_range due.state.year);
-    conversions = record { count = refl; totals = sym p };
-    belt_conversions = record { count = refl; totals = sym b };
-    records = sixty-in_range;
-    small = λ e. let z : ◌≡◌ {A = ℕ} 0 1 = cc in absurd (omega arith);
-  },
-  longest_years_lem k (next (longest_year due.state.year) due) (omega arith) p b,
-)
+longest_years_lem zero due l p b = grind arith
+longest_years_lem (suc k) due l p b = grind (arith, days_range, longest_years_lem k (next (longest_year due.state.year) due) (omega arith) p b)
 
 pub longest_accepted : (plan : Option Plan) → PlanLent plan
     → (dossier plan (dossier_bytes longest_dossier) ≡ accepted longest_dossier []) × (length (dossier_bytes longest_dossier) ≡ 65328)

@@ -1,12 +1,7 @@
 -- #103 and #106: the longest plan has 18,322 bytes.
 -- Assumes nothing.
-use Prim.Native.Nat.{ℕ, zero, suc, ◌+◌, ◌*◌, ◌≤◌}
-use mathlib.Core.Path.{◌≡◌, refl}
-use mathlib.Core.Option.{Option, none, some}
-use mathlib.Core.List.{List, [], ◌∷◌, map}
-use native.Mathlib.Omega.{arith}
-use lib.Dec.{lit≤}
-use lib.ListN.{length, length-append}
+use Rattle.std.proofs.Common.{ℕ, zero, suc, ◌+◌, ◌*◌, ◌≤◌, ◌≡◌, refl, List, [], ◌∷◌, map, arith, lit≤, length, length-append}
+use mathlib.Core.Option.{Option, some}
 use Rattle.wire.specs.Bytes.{Bytes, bytes, joined}
 use Rattle.dossier.specs.Layouts.{activity_bytes}
 use Rattle.dossier.specs.Plan.{PlanYear, PlanYearInRange, plan_year_bytes, PlanYearsInRange, Plan, plan_bytes, PlanLent}
@@ -31,8 +26,7 @@ years-length least (p ∷ l) r =
 
 lent_length : (m : Option Plan) → PlanLent m → length (bytes_if_any plan_bytes m) ≤ 18322
 unfolding bytes_if_any plan_bytes joined
-lent_length none r = omega arith
-lent_length (some p) r = let h = years-length 0 p r.years in let c = r.count in simp (length-append, length-bytes) (omega arith)
+lent_length m r = grind (arith, length-append, length-bytes, years-length)
 
 pub longest_plan : (s : List ℕ) → Bytes s → (m : Option Plan) (rest : List ℕ) → lent_plan s ≡ accepted m rest → length s ≤ 18322
 longest_plan s bs m rest q = let w = plan-accepted.sound s bs m rest q in rw w.1 (lent_length m w.0)

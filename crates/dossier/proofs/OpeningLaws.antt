@@ -1,13 +1,7 @@
 -- HD to MP: what is accepted is exactly the encoding of an opening in range.
 -- Assumes nothing.
-use Prim.Native.Nat.{ℕ}
-use mathlib.Core.Path.{◌≡◌, refl, sym}
-use mathlib.Core.Bool.{true, false}
-use mathlib.Core.Option.{Option, none, some}
-use mathlib.Core.List.{List, ◌++◌, append_assoc}
-use native.Mathlib.Omega.{arith}
-use borrow.Author.Tests.{eqb-true, eqb-false, eq-eqb, ne_eqb}
-use lib.Dec.{eqb, lit<}
+use Rattle.std.proofs.Common.{ℕ, ◌≡◌, refl, sym, true, false, List, ◌++◌, append_assoc, arith, eqb, lit<}
+use mathlib.Core.Option.{Option}
 use Rattle.activity.specs.Activity.{Within}
 use Rattle.wire.specs.Bytes.{joined}
 use Rattle.dossier.specs.Marks.{mark_st, mark_pa, mark_da}
@@ -31,8 +25,7 @@ unfolding stocks_if_any
 stocks_if_any_exact = if_any_lem (stands (is mark_st)) stocks_exact
 
 filed : (m : Option (List ℕ)) (t : List ℕ) → StocksThen m t → StocksFiled m
-filed none t p = tt
-filed (some xs) t p = p.0
+filed m t p = grind arith
 
 -- it begins with its mark
 pub stocks-begin : (xs t : List ℕ) → stands (is mark_st) (stocks_bytes xs ++ t) ≡ true
@@ -40,8 +33,7 @@ unfolding stocks_bytes joined
 stocks-begin xs t = rw append_assoc (stands-bytes (is mark_st) mark_st _ (lit< tt))
 
 filed_then : (m : Option (List ℕ)) (t : List ℕ) → StocksFiled m → stands (is mark_st) t ≡ false → StocksThen m t
-filed_then none t p h = h
-filed_then (some xs) t p h = (p, stocks-begin xs t)
+filed_then m t p h = grind (arith, stocks-begin)
 
 -- MP under Option 2, and none under Option 1
 abbrev MatrixThen : ℕ → Option (List ℕ) → List ℕ → Type 0
@@ -52,12 +44,10 @@ unfolding matrix_under
 under_exact option = if_any_lem (λ _. eqb option 2) matrix_exact
 
 under : (option : ℕ) → Within 1 option 2 → (m : Option (List ℕ)) (t : List ℕ) → MatrixThen option m t → MatrixUnder option m
-under option h none t e = omega (arith, eqb-false option 2 e)
-under option h (some xs) t p = (eqb-true option 2 p.1, p.0)
+under option h m t e = grind arith
 
 under_then : (option : ℕ) (m : Option (List ℕ)) (t : List ℕ) → MatrixUnder option m → MatrixThen option m t
-under_then option none t e = ne_eqb option 2 (λ f. omega arith)
-under_then option (some xs) t p = (p.1, eq-eqb option 2 p.0)
+under_then option m t e = grind arith
 
 -- PA begins with another
 pub areas-begin : (areas t : List ℕ) → stands (is mark_st) (areas_bytes mark_pa areas ++ t) ≡ false

@@ -1,10 +1,6 @@
 -- Years in range, given piece by piece.
 -- Assumes nothing.
-use Prim.Native.Nat.{ℕ, zero, suc}
-use mathlib.Core.Path.{◌≡◌}
-use mathlib.Core.List.{List, [], ◌∷◌}
-use native.Mathlib.Omega.{arith}
-use lib.ListN.{length}
+use Rattle.std.proofs.Common.{ℕ, zero, suc, ◌≡◌, List, [], ◌∷◌, arith, length}
 use Rattle.figures.specs.Year.{Year}
 use Rattle.dossier.specs.Records.{Due, next, year_bytes, YearsInRange}
 use Rattle.dossier.specs.Reader.{accepted}

@@ -1,13 +1,7 @@
 -- The numbers at their place in a dossier: after an opening and k years in range, what follows decides.
 -- Assumes nothing.
-use Prim.Native.Nat.{ℕ, zero, suc, ◌+◌, ◌-◌, ◌≤◌, ◌<◌}
-use mathlib.Core.Path.{◌≡◌, refl, ◌∙◌, sym}
-use mathlib.Core.Bool.{cond}
+use Rattle.std.proofs.Common.{ℕ, zero, suc, ◌+◌, ◌-◌, ◌≤◌, ◌<◌, ◌≡◌, refl, ◌∙◌, sym, cond, List, [], ◌∷◌, ◌++◌, map, arith, ltb, lit<, length, take, length-append}
 use mathlib.Core.Option.{Option}
-use mathlib.Core.List.{List, [], ◌∷◌, ◌++◌, map}
-use native.Mathlib.Omega.{arith}
-use lib.Dec.{ltb, lit<}
-use lib.ListN.{length, take, length-append}
 use Rattle.figures.specs.Year.{Year}
 use Rattle.wire.specs.Bytes.{number, bytes, joined}
 use Rattle.dossier.specs.Marks.{mark_yr, mark_pl, mark_en}
@@ -36,7 +30,8 @@ module _ (plan : Option Plan) (lent : PlanLent plan) (o : Opening) (p : OpeningI
   dossier_continues : (k : ℕ) → o.head.years ≡ length l + k → (t : List ℕ) → Beyond t → (n : ℕ) → years k then_due l t ≡ refused n → dossier plan (so_far t) ≡ refused n
   unfolding dossier followed
   dossier_continues k e t v n h =
-      rw (opening_exact.reads o (joined (map year_bytes l) ++ t) tt p, years_continue l k o.head.years e (first_due plan o) (room-opening plan lent o p _ (omega arith)) [] t q v, h)
+      let after = years_continue l k o.head.years e (first_due plan o) (room-opening plan lent o p _ (omega arith)) [] t q v in
+      grind (arith, opening_exact.reads o (joined (map year_bytes l) ++ t) tt p)
 
   -- fewer than n years are given: the next year's fault is the dossier's
   pub year_fault : length l < o.head.years → (t : List ℕ) → Beyond t → (n : ℕ) → year then_due t ≡ refused n → dossier plan (so_far t) ≡ refused n
@@ -83,9 +78,7 @@ module _ (plan : Option Plan) (lent : PlanLent plan) (o : Opening) (p : OpeningI
 
   -- n years are given: "YR stays due there and gives 6", or 1 where it is cut
   pub late_year : length l ≡ o.head.years → (t : List ℕ) → dossier plan (so_far (bytes 2 mark_yr ++ t)) ≡ refused (cond (ltb (length t) 4) 1 6)
-  late_year h t =
-      dossier_continues 0 (omega arith) _ (year_beyond t) _
-      (unfold years followed in rw (end-none_left t))
+  late_year h t = dossier_continues 0 (omega arith) _ (year_beyond t) _ (unfold years followed in rw (end-none_left t))
 
   -- "bytes after EN" are 2
   pub beyond_end : length l ≡ o.head.years → (b : ℕ) (t : List ℕ) → dossier plan (so_far (bytes 2 mark_en ++ (b ∷ t))) ≡ refused 2

@@ -1,27 +1,20 @@
 -- The plan: what is accepted is exactly the encoding of a plan in range, and what it has for a year is in range.
 -- Assumes nothing.
-use Prim.Native.Nat.{ℕ, zero, suc, ◌+◌, ◌≤◌}
-use mathlib.Core.Path.{◌≡◌, refl, ◌∙◌, ap, sym}
-use mathlib.Core.Bool.{Bool, true, false, cond}
-use mathlib.Core.Logic.{inl, inr}
+use Rattle.std.proofs.Common.{ℕ, zero, suc, ◌+◌, ◌≤◌, ◌≡◌, refl, sym, Bool, true, false, List, [], ◌∷◌, ◌++◌, map, append_assoc}
+use Rattle.std.proofs.Common.{append-nil, arith, lt-ltb, ltb-false, ltb, lit<, length, length-append, ⊎_elim}
 use mathlib.Core.Option.{Option, none, some}
-use mathlib.Core.List.{List, [], ◌∷◌, ◌++◌, map, append_assoc, append-nil}
-use native.Mathlib.Omega.{arith}
-use borrow.Author.Tests.{lt-ltb, ltb-false}
-use lib.Dec.{ltb, eqb, lit<}
-use lib.ListN.{length, length-append}
 use Rattle.activity.specs.Records.{Activity}
 use Rattle.activity.specs.Activity.{RunInRange}
 use Rattle.wire.specs.Bytes.{Bytes, bytes, joined}
-use Rattle.dossier.specs.Causes.{plan_not_of_form, record_repeated, ◌∈◌}
+use Rattle.dossier.specs.Causes.{◌∈◌}
 use Rattle.dossier.specs.Marks.{mark_py, mark_en}
 use Rattle.dossier.specs.Plan.{PlanYear, PlanYearInRange, plan_year_bytes, PlanYearsInRange, Plan, PlanInRange, plan_bytes, PlanLent, records_in, records_for}
 use Rattle.dossier.specs.Records.{RecordsInRange, bytes_if_any}
-use Rattle.dossier.specs.Reader.{Judged, refused, accepted, after, ◌>>◌, give, mark, stands, is, upon, if_any, nothing, followed}
+use Rattle.dossier.specs.Reader.{Judged, refused, accepted, give, stands, is, upon, if_any, nothing, followed}
 use Rattle.dossier.specs.JudgingRecords.{activity_mark}
 use Rattle.dossier.specs.JudgingPlan.{plan_year, plan_end, plan_years, plan_fault, renumbered, plan, lent_plan}
 use Rattle.wire.proofs.BytesLaws.{bytes_after, length-bytes}
-use Rattle.dossier.proofs.ReaderLaws.{no, never, step, was, mark-yes, mark-only, stands-bytes, nothing-only}
+use Rattle.dossier.proofs.ReaderLaws.{mark-yes, mark-only, stands-bytes, nothing-only, chosen}
 use Rattle.dossier.proofs.Exact.{Exact, begin-first, field_then, within_then}
 use Rattle.dossier.proofs.ExactParts.{Any, last_then, OptionThen, if_any_lem}
 use Rattle.dossier.proofs.CauseLaws.{plan_causes}
@@ -54,12 +47,7 @@ plan_end-reads years = rw (mark-yes mark_en [] (lit< tt))
 
 plan_end-only : (years : List PlanYear) (s : List ℕ) → Bytes s → (all : Plan) (t : List ℕ) → plan_end years s ≡ accepted all t → (all ≡ years) × (s ≡ bytes 2 mark_en) × (t ≡ [])
 unfolding plan_end give followed
-plan_end-only years s bs all t q =
-    let f = step (mark mark_en s) (λ _. nothing >> give years) q in
-    let g = step (nothing f.1) (λ _. give years) f.3 in
-    let n = nothing-only f.1 g.2 in
-    let w = was g.3 in
-    (sym w.0, mark-only mark_en s bs f.2 ∙ ap (λ (l : List ℕ). bytes 2 mark_en ++ l) n.0 ∙ append-nil (bytes 2 mark_en), sym w.1 ∙ n.1)
+plan_end-only years s bs all t q = grind (arith, mark-only, nothing-only, append-nil)
 
 -- the bytes of years and EN
 pub plan_years_bytes : List PlanYear → List ℕ
@@ -81,10 +69,8 @@ plan_years-reads zero least before (p ∷ l) n r = absurd (omega arith)
 plan_years-reads (suc k) least before [] n r =
     unfold plan_years upon plan_years_bytes joined in rw (append-nil before, stands-bytes (is mark_py) mark_en [] (lit< tt)) (plan_end-reads before)
 plan_years-reads (suc k) least before (p ∷ l) n r =
-    let u = plan_years_bytes l ++ [] in
-    let here = (plan_year_exact least).reads p u tt (r.0, years-over l) in
-    let more = plan_years-reads k (p.year + 1) (before ++ (p ∷ [])) l (omega arith) r.1 in
-    rw years-cons (year-read least before _ (suc k) k refl (plan_year_begins (is mark_py) p u) p u here ∙ more ∙ ap (λ (x : Plan). accepted x []) (append_assoc before (p ∷ []) l))
+    let here = (plan_year_exact least).reads p (plan_years_bytes l ++ []) tt (r.0, years-over l) in
+    grind (arith, years-cons, year-read, plan_year_begins, append_assoc, plan_years-reads k (p.year + 1) (before ++ (p ∷ [])) l (omega arith) r.1)
 
 -- more was read after before, then EN, and nothing follows
 record ReadPlan (k least : ℕ) (before : List PlanYear) (s : List ℕ) (all : Plan) (t : List ℕ) : Type 0 where
@@ -97,43 +83,28 @@ record ReadPlan (k least : ℕ) (before : List PlanYear) (s : List ℕ) (all : P
 
 ended : (k least : ℕ) (before : List PlanYear) (s : List ℕ) → Bytes s → (all : Plan) (t : List ℕ) → plan_end before s ≡ accepted all t → ReadPlan k least before s all t
 unfolding plan_years_bytes joined
-ended k least before s bs all t q =
-    let w = plan_end-only before s bs all t q in
-    record { more = []; whole = w.0 ∙ sym (append-nil before); count = omega arith; each = tt; over = w.2; encoded = w.1 }
+ended k least before s bs all t q = grind (arith, plan_end-only, append-nil)
 
 one_more_lem : (k least : ℕ) (before : List PlanYear) (s : List ℕ) (p : PlanYear) (u : List ℕ) (all : Plan) (t : List ℕ) → PlanYearInRange least p → s ≡ plan_year_bytes p ++ u
     → ReadPlan k (p.year + 1) (before ++ (p ∷ [])) u all t → ReadPlan (suc k) least before s all t
-one_more_lem k least before s p u all t i e r = record {
-  more = p ∷ r.more;
-  whole = r.whole ∙ append_assoc before (p ∷ []) r.more;
-  count = omega arith;
-  each = (i, r.each);
-  over = r.over;
-  encoded = e ∙ ap (λ (x : List ℕ). plan_year_bytes p ++ x) r.encoded ∙ joins;
-}
-  where
-    joins : plan_year_bytes p ++ plan_years_bytes r.more ≡ plan_years_bytes (p ∷ r.more)
-    joins = unfold plan_years_bytes joined in simp append_assoc
+unfolding plan_years_bytes joined
+one_more_lem k least before s p u all t i e r = grind (arith, append_assoc)
 
 plan_years-only : (k least : ℕ) (before : List PlanYear) (s : List ℕ) → Bytes s → (all : Plan) (t : List ℕ) → plan_years k least before s ≡ accepted all t → ReadPlan k least before s all t
 unfolding plan_years upon followed
 plan_years-only zero least before s bs all t q = ended 0 least before s bs all t q
-plan_years-only (suc k) least before s bs all t q = go (stands (is mark_py) s) q (λ p u b. plan_years-only k (p.year + 1) (before ++ (p ∷ [])) u b all t)
-  where
-    go : (h : Bool) → cond h (after (plan_year least s) (λ p. plan_years k (p.year + 1) (before ++ (p ∷ [])))) (plan_end before s) ≡ accepted all t
-        → ((p : PlanYear) (u : List ℕ) → Bytes u → plan_years k (p.year + 1) (before ++ (p ∷ [])) u ≡ accepted all t → ReadPlan k (p.year + 1) (before ++ (p ∷ [])) u all t)
-        → ReadPlan (suc k) least before s all t
-    go false q ih = ended (suc k) least before s bs all t q
-    go true q ih =
-        let f = step (plan_year least s) (λ p. plan_years k (p.year + 1) (before ++ (p ∷ []))) q in
-        let g = (plan_year_exact least).only s bs (omega arith) f.0 f.1 f.2 in
-        one_more_lem k least before s f.0 f.1 all t g.1.0 g.2 (ih f.0 f.1 (bytes_after (plan_year_bytes f.0) f.1 (rw g.2 at bs)) f.3)
+plan_years-only (suc k) least before s bs all t q =
+    ⊎_elim (λ w.
+    let (h, p, u, e, r) = w in
+    let g = (plan_year_exact least).only s bs (omega arith) p u e in
+    one_more_lem k least before s p u all t g.1.0 g.2 (plan_years-only k (p.year + 1) (before ++ (p ∷ [])) u (bytes_after (plan_year_bytes p) u (rw g.2 at bs)) all t r))
+    (λ w. ended (suc k) least before s bs all t w.1)
+    (chosen (stands (is mark_py) s) (plan_year least s) (λ p. plan_years k (p.year + 1) (before ++ (p ∷ []))) _ q)
 
 -- ---- the plan, and what is lent
 -- whatever the number of a refusal
 renumbered-only : {A : Type 0} (f : ℕ → ℕ) (j : Judged A) {a : A} {t : List ℕ} → renumbered f j ≡ accepted a t → j ≡ accepted a t
-renumbered-only f (refused n) e = no _ _ _ e
-renumbered-only f (accepted a t) e = e
+renumbered-only f j e = grind arith
 
 abbrev PlanThen : Plan → List ℕ → Type 0
 PlanThen p t = PlanInRange p × (t ≡ [])
@@ -142,17 +113,14 @@ plan_exact : Exact 0 Any plan plan_bytes PlanThen
 unfolding plan
 plan_exact = record {
   reads = λ p t c r. rw r.1 (reads p r.0);
-  only = λ s bs h p t q. let w = only s p t (plan_years-only 20 0 [] s bs p t (renumbered-only _ _ q)) in (tt, w.0, w.1);
+  only = λ s bs h p t q. let r = plan_years-only 20 0 [] s bs p t (renumbered-only _ _ q) in grind (arith, encoded);
 }
   where
     encoded : (p : Plan) → plan_years_bytes p ≡ plan_bytes p ++ []
     encoded p = unfold plan_years_bytes plan_bytes joined in simp (append_assoc, append-nil)
 
-    only : (s : List ℕ) (p : Plan) (t : List ℕ) → ReadPlan 20 0 [] s p t → PlanThen p t × (s ≡ plan_bytes p ++ t)
-    only s p t r = rw (r.whole, r.over) ((record { count = r.count; years = r.each }, refl), r.encoded ∙ encoded r.more)
-
     reads : (p : Plan) → PlanInRange p → renumbered plan_fault (plan_years 20 0 [] (plan_bytes p ++ [])) ≡ accepted p []
-    reads p r = rw (← encoded p, ← append-nil (plan_years_bytes p), plan_years-reads 20 0 [] p r.count r.years)
+    reads p r = grind (arith, encoded, append-nil, plan_years-reads 20 0 [] p r.count r.years)
 
 -- bytes are there
 abbrev some_bytes : List ℕ → Bool
@@ -176,36 +144,22 @@ lent-only none (b ∷ t) h = absurd (omega (arith, ltb-false 0 (suc (length t)) 
 lent-only (some p) t h = h.0
 
 pub lent_then : (m : Option Plan) → PlanLent m → LentThen m []
-lent_then none r = refl
-lent_then (some p) r = ((r, refl), plan_bytes_there p [])
+lent_then m r = grind (arith, plan_bytes_there)
 
 -- every refusal of it is 12 or 14
 pub lent_plan-refused : (s : List ℕ) (n : ℕ) → lent_plan s ≡ refused n → n ∈ plan_causes
 unfolding lent_plan if_any plan give followed
-lent_plan-refused s n e = go (some_bytes s) (plan_years 20 0 [] s) e
-  where
-    fault : (b : Bool) → ◌≡◌ {A = Judged (Option Plan)} (refused (cond b record_repeated plan_not_of_form)) (refused n) → n ∈ plan_causes
-    fault true e = inr (inl cc)
-    fault false e = inl cc
-
-    go : (b : Bool) (j : Judged Plan) → cond b (after (renumbered plan_fault j) (λ p. accepted (some p))) (accepted none s) ≡ refused n → n ∈ plan_causes
-    go true (refused m) e = fault (eqb m record_repeated) e
-    go true (accepted p u) e = never _ _ _ e
-    go false j e = never _ _ _ e
+lent_plan-refused s n e = grind arith
 
 -- ---- what a plan has for a year is in range
 records_in_range : (least : ℕ) (p : Plan) → PlanYearsInRange least p → (year : ℕ) (l : List Activity) → records_in p year ≡ some l → RunInRange l
 unfolding records_in
-records_in_range least [] r year l e = let z : ◌≡◌ {A = ℕ} 0 1 = cc in absurd (omega arith)
-records_in_range least (p ∷ rest) r year l e = go (eqb p.year year) e (records_in_range (p.year + 1) rest r.1 year l)
-  where
-    go : (b : Bool) → cond b (some p.activities) (records_in rest year) ≡ some l → (records_in rest year ≡ some l → RunInRange l) → RunInRange l
-    go true e ih = let same : p.activities ≡ l = cc in rw same at r.0.activities
-    go false e ih = ih e
+records_in_range least [] r year l e = cc
+records_in_range least (p ∷ rest) r year l e = grind (arith, records_in_range (p.year + 1) rest r.1 year l)
 
 -- so are the records that a year takes, its own or the plan's
 pub taken_range : (m : Option Plan) → PlanLent m → (year : ℕ) (planned : Bool) (l : List Activity) → RecordsInRange (records_for m year) planned l → RunInRange l
 unfolding records_for
 taken_range m r year false l h = h
-taken_range none r year true l h = let z : ◌≡◌ {A = ℕ} 0 1 = cc in absurd (omega arith)
+taken_range none r year true l h = cc
 taken_range (some p) r year true l h = records_in_range 0 p r.years year l h

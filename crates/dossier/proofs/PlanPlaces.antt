@@ -1,14 +1,8 @@
 -- The numbers of PL at its place (#103): 13 right after it, whatever follows; 2 where another mark than YR or EN follows it, and where it follows an
 -- activity record.
 -- Assumes nothing.
-use Prim.Native.Nat.{ℕ, ◌<◌}
-use mathlib.Core.Path.{◌≡◌}
-use mathlib.Core.Bool.{Bool, true, false}
+use Rattle.std.proofs.Common.{ℕ, ◌<◌, ◌≡◌, Bool, true, false, List, ◌∷◌, ◌++◌, map, append_assoc, arith, lit<, length}
 use mathlib.Core.Option.{Option, none}
-use mathlib.Core.List.{List, ◌∷◌, ◌++◌, map, append_assoc}
-use native.Mathlib.Omega.{arith}
-use lib.Dec.{lit<}
-use lib.ListN.{length}
 use Rattle.activity.specs.Records.{Activity}
 use Rattle.figures.specs.Year.{Year}
 use Rattle.figures.specs.Figures.{small_activity}
@@ -30,8 +24,7 @@ use Rattle.dossier.proofs.Places.{year_then_other}
 
 -- after PL anything may follow
 any_follows : (planned : Bool) (l : List Activity) (t : List ℕ) → planned ≡ true → Follows planned l t
-any_follows true l t e = tt
-any_follows false l t e = let z : ◌≡◌ {A = ℕ} 0 1 = cc in absurd (omega arith)
+any_follows planned l t e = grind arith
 
 -- "13 right after PL, where the plan lacks the year": whatever follows PL
 pub plan_lacks : (due : Due) → DueInRange due → (y : Year) → TablesInRange due y → records_for due.plan due.state.year ≡ none → (t : List ℕ)
@@ -49,8 +42,7 @@ not-small due h y p planned large t =
 -- "PL is due only right after CD": after an activity record it is no more read with the year
 records_then-planned : (a : Activity) (l : List Activity) (t : List ℕ) → Follows false (a ∷ l) (bytes 2 mark_pl ++ t)
 unfolding run_bytes joined activity_mark
-records_then-planned a l t =
-    (stands-bytes activity_mark mark_pl t (lit< tt), rw append_assoc (activity-not-planned _ (begins_activity a (run_bytes l ++ (bytes 2 mark_pl ++ t)))))
+records_then-planned a l t = grind (arith, stands-bytes, append_assoc, activity-not-planned, begins_activity, run_bytes)
 
 -- ---- in a dossier, after years in range
 module _ (plan : Option Plan) (lent : PlanLent plan) (o : Opening) (p : OpeningInRange o) (l : List Year) (q : YearsInRange (first_due plan o) l)
@@ -61,10 +53,8 @@ module _ (plan : Option Plan) (lent : PlanLent plan) (o : Opening) (p : OpeningI
 
   -- "an activity record or another PL after it is 2", and any other mark but YR and EN
   pub after-planned : y.planned ≡ true → (m : ℕ) → m < 65536 → (m ≡ mark_yr → ⊥) → (m ≡ mark_en → ⊥) → dossier plan (so_far (bytes 2 m ++ t)) ≡ refused 2
-  after-planned planned m small f g =
-      year_then_other plan lent o p l q some_left y r m small f g t (any_follows y.planned y.activities (bytes 2 m ++ t) planned)
+  after-planned planned m small f g = grind (arith, year_then_other)
 
   -- as PL after an activity record is
   pub planned-after : y.planned ≡ false → (a : Activity) (more : List Activity) → y.activities ≡ a ∷ more → dossier plan (so_far (bytes 2 mark_pl ++ t)) ≡ refused 2
-  planned-after own a more e =
-      year_then_other plan lent o p l q some_left y r mark_pl (lit< tt) (λ z. omega arith) (λ z. omega arith) t (rw (own, e) (records_then-planned a more t))
+  planned-after own a more e = grind (arith, year_then_other, records_then-planned)

@@ -1,14 +1,7 @@
 -- A plan's judgement step by step: its years one by one, its end, and what is lent.
 -- Assumes nothing.
-use Prim.Native.Nat.{ℕ, zero, suc, ◌+◌, ◌<◌, ◌≤◌}
-use mathlib.Core.Path.{◌≡◌, refl, ◌∙◌, sym}
-use mathlib.Core.Bool.{Bool, true, false, cond}
+use Rattle.std.proofs.Common.{ℕ, suc, ◌+◌, ◌<◌, ◌≡◌, refl, Bool, true, false, cond, List, [], ◌∷◌, ◌++◌, arith, lt-ltb, le-ltb, eqb, length, take, drop_of_length-le}
 use mathlib.Core.Option.{none, some}
-use mathlib.Core.List.{List, [], ◌∷◌, ◌++◌}
-use native.Mathlib.Omega.{arith}
-use borrow.Author.Tests.{lt-ltb, le-ltb, ne_eqb, ltb-false}
-use lib.Dec.{ltb, eqb}
-use lib.ListN.{length, take, drop, length-drop, drop_of_length-le}
 use Rattle.wire.specs.Bytes.{number}
 use Rattle.dossier.specs.Causes.{plan_not_of_form}
 use Rattle.dossier.specs.Marks.{mark_py, mark_en}
@@ -17,7 +10,7 @@ use Rattle.dossier.specs.Reader.{refused, accepted, after, ◌>>◌, give, mark,
 use Rattle.dossier.specs.JudgingPlan.{plan_year, plan_end, plan_years, plan_fault, renumbered, plan, lent_plan}
 use Rattle.dossier.proofs.ReaderLaws.{stood}
 
--- ---- the years: where PY stands, a year is read and the plan goes on after it, or it is refused; elsewhere it ends
+-- ---- the years: where PY stands and there is room, a year is read and the plan goes on after it, or it is refused; where no room is left it ends
 module _ (least : ℕ) (before : List PlanYear) (s : List ℕ) where
   module _ (more less : ℕ) (room : more ≡ suc less) (here : stands (is mark_py) s ≡ true) where
     pub year-read : (p : PlanYear) (u : List ℕ) → plan_year least s ≡ accepted p u → plan_years more least before s ≡ plan_years less (p.year + 1) (before ++ (p ∷ [])) u
@@ -28,29 +21,13 @@ module _ (least : ℕ) (before : List PlanYear) (s : List ℕ) where
     unfolding plan_years upon followed
     year-refused n e = rw (room, here, e)
 
-  pub years-over : (more : ℕ) → stands (is mark_py) s ≡ false → plan_years more least before s ≡ plan_end before s
-  unfolding plan_years upon
-  years-over zero f = refl
-  years-over (suc more) f = rw f
-
   pub years_full : (more : ℕ) → more ≡ 0 → plan_years more least before s ≡ plan_end before s
   unfolding plan_years
   years_full more z = rw z
 
 -- ---- the end: EN and nothing more, or 12
 module _ (years : Plan) (s : List ℕ) where
-  -- where not two bytes are left
-  pub end-unfit : (length s ≡ 2 → ⊥) → renumbered plan_fault (plan_end years s) ≡ refused plan_not_of_form
-  unfolding plan_end mark nothing followed
-  end-unfit f = go (ltb (length s) 2) (eqb (number (take 2 s)) mark_en) (ltb-false _ _)
-    where
-      go : (short there : Bool) → (short ≡ false → 2 ≤ length s)
-          → renumbered plan_fault (after (cond short (refused 1) (cond there (accepted (tt {0}) (drop 2 s)) (refused 2))) (λ _. nothing >> give years)) ≡ refused plan_not_of_form
-      go true there h = refl
-      go false false h = refl
-      go false true h = let l : 0 < length (drop 2 s) = simp length-drop (omega (arith, h refl)) in simp (lt-ltb _ _ l)
-
-  -- where two are
+  -- where two bytes are left
   pub end_two : length s ≡ 2 → renumbered plan_fault (plan_end years s) ≡ cond (eqb (number (take 2 s)) mark_en) (accepted years []) (refused plan_not_of_form)
   unfolding plan_end mark nothing give followed
   end_two h = rw (le-ltb (length s) 2 (omega arith), drop_of_length-le s {i = 2} (omega arith)) (go (eqb (number (take 2 s)) mark_en))
@@ -64,10 +41,7 @@ module _ (years : Plan) (s : List ℕ) where
   -- PY is no end
   pub end_mark : stands (is mark_py) s ≡ true → renumbered plan_fault (plan_end years s) ≡ refused plan_not_of_form
   unfolding plan_end mark followed
-  end_mark h =
-      let (long, e) = stood mark_py s h in
-      let other : number (take 2 s) ≡ mark_en → ⊥ = λ d. let z : mark_py ≡ mark_en = sym e ∙ d in omega arith in
-      simp (le-ltb _ _ long, ne_eqb _ _ other)
+  end_mark h = grind (arith, stood)
 
 -- ---- what is lent: no bytes are no plan, any others are judged
 module _ (s : List ℕ) where

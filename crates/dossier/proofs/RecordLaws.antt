@@ -1,11 +1,6 @@
 -- HD, PA, DA, CP, CD: what is accepted is exactly the encoding of a record in range.
 -- Assumes nothing.
-use Prim.Native.Nat.{ℕ, ◌^◌, ◌<◌, ◌≤◌}
-use mathlib.Core.Path.{refl}
-use mathlib.Core.List.{List, append-nil}
-use native.Mathlib.Omega.{arith}
-use lib.Dec.{lit<}
-use lib.ListN.{length-append}
+use Rattle.std.proofs.Common.{ℕ, ◌^◌, ◌<◌, ◌≤◌, refl, List, append-nil, arith, lit<, length-append}
 use Rattle.classes.specs.Classes.{greatest_area}
 use Rattle.wire.specs.Bytes.{joined}
 use Rattle.dossier.specs.Records.{Head, HeadInRange, head_bytes, AreasInRange, areas_bytes, ConversionsInRange, conversions_bytes}

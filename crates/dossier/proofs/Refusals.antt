@@ -1,13 +1,7 @@
 -- The number of each refusal, where document 01 says it ("Causes and numbers", "Calls and sheet", "Slips seen in the old product").
 -- Assumes nothing.
-use Prim.Native.Nat.{ℕ, ◌-◌, ◌≤◌, ◌<◌}
-use mathlib.Core.Path.{◌≡◌, refl, ◌∙◌, sym}
-use mathlib.Core.Bool.{Bool, true, false, cond}
-use mathlib.Core.List.{List, [], ◌∷◌, ◌++◌}
-use native.Mathlib.Omega.{arith}
-use borrow.Author.Tests.{lt-ltb, le-ltb, eq-eqb, ne_eqb}
-use lib.Dec.{ltb, eqb, lit<}
-use lib.ListN.{length, take, drop, length-append, length-drop, drop_of_length-le}
+use Rattle.std.proofs.Common.{ℕ, ◌-◌, ◌≤◌, ◌<◌, ◌≡◌, refl, ◌∙◌, sym, Bool, cond, List, [], ◌∷◌, ◌++◌, arith, lt-ltb, le-ltb}
+use Rattle.std.proofs.Common.{eq-eqb, ne_eqb, ltb, lit<, length, take, drop, length-append, length-drop, drop_of_length-le}
 use Rattle.wire.specs.Bytes.{number, bytes}
 use Rattle.wire.proofs.BytesLaws.{length-bytes, take-bytes}
 use Rattle.dossier.specs.Marks.{mark_yr, mark_en}
@@ -41,8 +35,7 @@ module _ (m n : ℕ) (s : List ℕ) where
 -- "YR stays due there and gives 6": 1 where the record is cut, 6 where it is complete, whatever follows it
 cut_or : {A : Type 0} (n : ℕ) (b : Bool) (t : List ℕ) → after {B = A} (cond b (refused 1) (accepted (tt {0}) t)) (λ _. refuse n) ≡ refused (cond b 1 n)
 unfolding refuse
-cut_or n true t = refl
-cut_or n false t = refl
+cut_or n b t = grind arith
 
 pub none_left_lem : {A : Type 0} (t : List ℕ) → none_left {A = A} (bytes 2 mark_yr ++ t) ≡ refused (cond (ltb (length t) 4) 1 6)
 unfolding none_left begin present followed
@@ -63,19 +56,11 @@ year-none_left due t h = left-refused due _ _ (rw (eq-eqb _ _ h) (none_left_lem 
 -- where a year is due: 1 where the bytes end before or inside its mark, 2 for any other mark, so for EN "before n years"
 pub year_short : (due : Due) (s : List ℕ) → length s < 2 → year due s ≡ refused 1
 unfolding year_left year_records none_left followed
-year_short due s h = left-refused due s 1 (go (eqb due.state.left 0))
-  where
-    go : (b : Bool) → cond b none_left (year_records (records_for due.plan due.state.year) due.state.year due.terms.start.0 due.terms.beltstart.0) s ≡ refused 1
-    go true = rw (begin_short mark_yr 4 s h)
-    go false = rw (begin_short mark_yr 4 s h)
+year_short due s h = grind (arith, left-refused, begin_short)
 
 pub year_other : (due : Due) (s : List ℕ) → 2 ≤ length s → (number (take 2 s) ≡ mark_yr → ⊥) → year due s ≡ refused 2
 unfolding year_left year_records none_left followed
-year_other due s h f = left-refused due s 2 (go (eqb due.state.left 0))
-  where
-    go : (b : Bool) → cond b none_left (year_records (records_for due.plan due.state.year) due.state.year due.terms.start.0 due.terms.beltstart.0) s ≡ refused 2
-    go true = rw (begin_other mark_yr 4 s h f)
-    go false = rw (begin_other mark_yr 4 s h f)
+year_other due s h f = grind (arith, left-refused, begin_other)
 
 -- ---- the ends: where EN is due, 1 where the bytes end before or inside its mark, YR once more, 2 for any other mark, 2 for any byte after EN
 module _ (s : List ℕ) where
@@ -95,9 +80,7 @@ module _ (s : List ℕ) where
     module _ (e : number (take 2 s) ≡ mark_en) where
       end_is : end s ≡ nothing (drop 2 s)
       unfolding end upon mark followed
-      end_is =
-          let f : number (take 2 s) ≡ mark_yr → ⊥ = λ d. let z : mark_en ≡ mark_yr = sym e ∙ d in omega arith in
-          rw (stands_here (is mark_yr) s long, ne_eqb _ _ f) (simp (le-ltb _ _ long, eq-eqb _ _ e))
+      end_is = grind (arith, stands_here, eq-eqb)
 
       pub end_followed : 2 < length s → end s ≡ refused 2
       unfolding nothing

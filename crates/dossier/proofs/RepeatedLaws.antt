@@ -1,13 +1,7 @@
 -- #105: a year's records are refused 14 just where they begin with records as they should be and one that equals one of these, no 61st record and no
 -- third CR.
 -- Assumes nothing.
-use Prim.Native.Nat.{ℕ, zero, suc, ◌+◌, ◌<◌, ◌≤◌}
-use mathlib.Core.Path.{◌≡◌, refl, ◌∙◌, ap}
-use mathlib.Core.Bool.{Bool, true, false, cond}
-use mathlib.Core.Logic.{◌↔◌}
-use mathlib.Core.List.{List, [], ◌∷◌, ◌++◌, append_assoc, append-nil}
-use native.Mathlib.Omega.{arith}
-use lib.ListN.{length}
+use Rattle.std.proofs.Common.{ℕ, zero, suc, ◌+◌, ◌<◌, ◌≤◌, ◌≡◌, ◌∙◌, true, false, ◌↔◌, List, [], ◌∷◌, ◌++◌, append_assoc, append-nil, arith, length, ◌⊎◌, ⊎_elim}
 use Rattle.activity.specs.Records.{Activity}
 use Rattle.activity.specs.Activity.{ActivityInRange, ActivitiesInRange, residue_one, residues, NoneOf, AllDifferent}
 use Rattle.wire.specs.Bytes.{Bytes, joined}
@@ -17,27 +11,21 @@ use Rattle.dossier.specs.Layouts.{activity_bytes, fresh}
 use Rattle.dossier.specs.Records.{Due}
 use Rattle.dossier.specs.Claims.{DueInRange}
 use Rattle.dossier.specs.Repeated.{Repeats}
-use Rattle.dossier.specs.Reader.{Judged, refused, accepted, Reader, after, ◌>>◌, give, refuse, stands, is, upon, holds, followed}
-use Rattle.dossier.specs.JudgingRecords.{activity_mark}
+use Rattle.dossier.specs.Reader.{refused, accepted, give, refuse, stands, is, upon, holds, followed}
 use Rattle.dossier.specs.Judging.{another, run, activities, year}
 use Rattle.wire.proofs.BytesLaws.{bytes_after}
-use Rattle.dossier.proofs.ReaderLaws.{never}
 use Rattle.dossier.proofs.CauseLaws.{not_listed}
-use Rattle.dossier.proofs.Causes.{record_causes, another-causes}
+use Rattle.dossier.proofs.Causes.{another-causes}
 use Rattle.dossier.proofs.ActivityLaws.{activity_exact, begins_activity}
 use Rattle.dossier.proofs.ResidueLaws.{one_residue_more, another-reads, another-only, another-few}
-use Rattle.dossier.proofs.SameLaws.{false_true, fresh-none, none-fresh, different-more}
+use Rattle.dossier.proofs.SameLaws.{fresh-none, none-fresh, different-more}
 use Rattle.dossier.proofs.RunLaws.{run_bytes, activities_one, activities_continue}
 use Rattle.dossier.proofs.TakenLaws.{run-not-planned, taken_own}
 use Rattle.dossier.proofs.YearLaws.{TablesInRange, tables_bytes, records-refused}
 
 -- ---- such records are refused
 repeated : (l : List Activity) (a : Activity) → (NoneOf l a → ⊥) → fresh l a ≡ false
-repeated l a f = go (fresh l a) refl
-  where
-    go : (b : Bool) → fresh l a ≡ b → b ≡ false
-    go true e = absurd (f (fresh-none l a e))
-    go false e = refl
+repeated l a f = grind (arith, fresh-none)
 
 pub repeats-refused : (s : List ℕ) → Repeats s → activities [] s ≡ refused 14
 unfolding run_bytes
@@ -83,67 +71,29 @@ at_once k before s a u p c e f = record {
 one_more_lem : (k : ℕ) (before : List Activity) (s : List ℕ) (a : Activity) (u : List ℕ) → ActivityInRange a → (residues before ≤ 2 → residues (before ++ (a ∷ [])) ≤ 2)
     → s ≡ activity_bytes a ++ u → fresh before a ≡ true → RepeatsAfter k (before ++ (a ∷ [])) u → RepeatsAfter (suc k) before s
 unfolding run_bytes joined
-one_more_lem k before s a u p c e f r = record {
-  more = a ∷ r.more;
-  count = omega (arith, r.count);
-  each = (p, r.each);
-  different = λ d. rw append_assoc at (r.different (different-more before a d (fresh-none before a f)));
-  again = r.again;
-  not_third = λ h. rw append_assoc at (r.not_third (c h));
-  in_range = r.in_range;
-  equal = rw append_assoc at r.equal;
-  rest = r.rest;
-  encoded = e ∙ rw (r.encoded, append_assoc);
-}
+one_more_lem k before s a u p c e f r = grind (arith, append_assoc, different-more, fresh-none)
+
+-- of those still read, one is read: it equals one of those before, or what is refused comes after it
+next_read : (k : ℕ) (before : List Activity) (s : List ℕ) → run (suc k) before s ≡ refused 14
+    → (a : Activity) × (u : List ℕ) × (another before s ≡ accepted a u) × ((fresh before a ≡ false) ⊎ ((fresh before a ≡ true) × (run k (before ++ (a ∷ [])) u ≡ refused 14)))
+unfolding run upon give refuse holds followed
+next_read k before s q = grind (arith, not_listed, another-causes)
 
 run-repeats : (k : ℕ) (before : List Activity) (s : List ℕ) → Bytes s → run k before s ≡ refused 14 → RepeatsAfter k before s
 unfolding run upon give refuse followed
-run-repeats zero before s bs q = go (stands activity_mark s) q
-  where
-    go : (h : Bool) → cond h (refused 9) (accepted before s) ≡ refused 14 → RepeatsAfter 0 before s
-    go true q = let z : ◌≡◌ {A = ℕ} 9 14 = cc in absurd (omega arith)
-    go false q = never _ _ _ q
-run-repeats (suc k) before s bs q = go (stands activity_mark s) q (λ a u b. run-repeats k (before ++ (a ∷ [])) u b)
-  where
-    next : Activity → Reader (List Activity)
-    next a = holds 14 (fresh before a) >> run k (before ++ (a ∷ []))
-
-    Later : Type 0
-    Later = (a : Activity) (u : List ℕ) → Bytes u → run k (before ++ (a ∷ [])) u ≡ refused 14 → RepeatsAfter k (before ++ (a ∷ [])) u
-
-    read : (a : Activity) (u : List ℕ) → another before s ≡ accepted a u → Later → (b : Bool) → fresh before a ≡ b
-        → after (cond b (accepted (tt {0}) u) (refused 14)) (λ _. run k (before ++ (a ∷ []))) ≡ refused 14 → RepeatsAfter (suc k) before s
-    read a u e ih true f q =
-        let g = activity_exact.only s bs (omega arith) a u (another-only before s e) in
-        one_more_lem k before s a u g.1 (another-few before s e) g.2 f (ih a u (bytes_after (activity_bytes a) u (rw g.2 at bs)) q)
-    read a u e ih false f q =
-        let g = activity_exact.only s bs (omega arith) a u (another-only before s e) in
-        at_once k before s a u g.1 (another-few before s e) g.2 f
-
-    judged : (j : Judged Activity) → another before s ≡ j → after j next ≡ refused 14 → Later → RepeatsAfter (suc k) before s
-    judged (refused n) e q ih = let z : n ≡ 14 = cc in absurd (not_listed 14 record_causes tt (another-causes before s 14 (e ∙ ap (λ (m : ℕ). refused m) z)))
-    judged (accepted a u) e q ih = unfold holds followed in read a u e ih (fresh before a) refl q
-
-    go : (h : Bool) → cond h (after (another before s) next) (accepted before s) ≡ refused 14 → Later → RepeatsAfter (suc k) before s
-    go true q ih = judged (another before s) refl q ih
-    go false q ih = never _ _ _ q
+run-repeats zero before s bs q = absurd (grind arith)
+run-repeats (suc k) before s bs q =
+    let (a, u, e, f) = next_read k before s q in
+    let g = activity_exact.only s bs (omega arith) a u (another-only before s e) in
+    let few = another-few before s e in
+    let b : Bytes u = bytes_after (activity_bytes a) u (rw g.2 at bs) in
+    ⊎_elim (at_once k before s a u g.1 few g.2) (λ h. one_more_lem k before s a u g.1 few g.2 h.0 (run-repeats k (before ++ (a ∷ [])) u b h.1)) f
 
 pub refused-repeats : (s : List ℕ) → Bytes s → activities [] s ≡ refused 14 → Repeats s
 unfolding activities run_bytes
 refused-repeats s bs q =
     let r = run-repeats 60 [] s bs q in
-    let d = r.different tt in
-    record {
-      before = r.more;
-      in_order = record { count = omega (arith, r.count); residue_count = omega (arith, r.not_third (omega arith)); each = r.each; different = d };
-      room = r.count;
-      again = r.again;
-      not_third = omega (arith, r.not_third (omega arith));
-      in_range = r.in_range;
-      equal = λ h. false_true r.equal (none-fresh r.more r.again h);
-      rest = r.rest;
-      encoded = r.encoded;
-    }
+    grind (arith, none-fresh)
 
 pub repeats : (s : List ℕ) → Bytes s → (activities [] s ≡ refused 14) ↔ Repeats s
 repeats s bs = (refused-repeats s bs, repeats-refused s)

@@ -1,32 +1,14 @@
 -- #105: `same` is equality of records, and a list of records is all different just where each is none of those before it.
 -- Assumes nothing.
-use Prim.Native.Nat.{ℕ}
-use mathlib.Core.Path.{◌≡◌, refl, ◌∙◌, ap, sym}
-use mathlib.Core.Bool.{Bool, true, false, cond}
-use mathlib.Core.List.{List, [], ◌∷◌, ◌++◌}
-use native.Mathlib.Omega.{arith}
-use borrow.Author.Tests.{eqb-true, eq-eqb}
-use lib.Dec.{eqb}
-use lib.ListN.{get_or}
+use Rattle.std.proofs.Common.{ℕ, ◌≡◌, refl, sym, Bool, true, false, cond, List, [], ◌∷◌, ◌++◌, arith, eq-eqb, eqb, get_or}
 use Rattle.activity.specs.Records.{Activity}
-use Rattle.activity.specs.Records.Activity.{Fuel, Vehicles, Nitrogen, Lime, Residue}
+use Rattle.activity.specs.Records.Activity.{Fuel, Vehicles, Nitrogen, Lime}
 use Rattle.activity.specs.Activity.{NoneOf, AllDifferent}
 use Rattle.dossier.specs.Marks.{mark_fu, mark_ve, mark_ni, mark_li}
 use Rattle.dossier.specs.Layouts.{residue_of, layout_of, numbers_of, alike, same, fresh}
 
 pub false_true : {b : Bool} → b ≡ false → b ≡ true → ⊥
-false_true f t = let z : ◌≡◌ {A = ℕ} 1 0 = ap (λ (b : Bool). cond b 0 1) (sym f ∙ t) in absurd (omega arith)
-
--- ---- lists of numbers
-alike-eq : (xs ys : List ℕ) → alike xs ys ≡ true → xs ≡ ys
-alike-eq [] [] e = refl
-alike-eq [] (y ∷ ys) e = absurd (false_true refl e)
-alike-eq (x ∷ xs) [] e = absurd (false_true refl e)
-alike-eq (x ∷ xs) (y ∷ ys) e = go (eqb x y) (eqb-true x y) e (alike-eq xs ys)
-  where
-    go : (b : Bool) → (b ≡ true → x ≡ y) → cond b (alike xs ys) false ≡ true → (alike xs ys ≡ true → xs ≡ ys) → ◌≡◌ {A = List ℕ} (x ∷ xs) (y ∷ ys)
-    go true h e ih = λ i. h refl i ∷ ih e i
-    go false h e ih = absurd (false_true refl e)
+false_true f t = cc
 
 alike_itself : (xs : List ℕ) → alike xs xs ≡ true
 alike_itself [] = refl
@@ -43,19 +25,11 @@ record_from m xs =
 
 told : (a : Activity) → record_from (layout_of a).mark (numbers_of a) ≡ a
 unfolding record_from
-told (Fuel kind grams) = refl
-told (Vehicles kind count average rate) = refl
-told (Nitrogen source crop grams content) = refl
-told (Lime material grams) = refl
-told (Residue r) = refl
+told a = grind arith
 
 pub same-eq : (a b : Activity) → same a b ≡ true → a ≡ b
 unfolding same
-same-eq a b e = go (eqb (layout_of a).mark (layout_of b).mark) (eqb-true _ _) e
-  where
-    go : (t : Bool) → (t ≡ true → (layout_of a).mark ≡ (layout_of b).mark) → cond t (alike (numbers_of a) (numbers_of b)) false ≡ true → a ≡ b
-    go true h e = let n = alike-eq (numbers_of a) (numbers_of b) e in sym (told a) ∙ (λ i. record_from (h refl i) (n i)) ∙ told b
-    go false h e = absurd (false_true refl e)
+same-eq a b e = grind arith
 
 pub same_itself : (a : Activity) → same a a ≡ true
 unfolding same
@@ -64,21 +38,13 @@ same_itself a = rw (eq-eqb (layout_of a).mark (layout_of a).mark refl) (alike_it
 -- ---- a record that is none of a list's
 pub fresh-none : (l : List Activity) (a : Activity) → fresh l a ≡ true → NoneOf l a
 unfolding fresh
-fresh-none [] a e = tt
-fresh-none (b ∷ l) a e = go (same a b) refl e (fresh-none l a)
-  where
-    go : (t : Bool) → same a b ≡ t → cond t false (fresh l a) ≡ true → (fresh l a ≡ true → NoneOf l a) → NoneOf (b ∷ l) a
-    go true h e ih = absurd (false_true refl e)
-    go false h e ih = ((λ q. false_true h (rw (← q) (same_itself a))), ih e)
+fresh-none [] a e = grind arith
+fresh-none (b ∷ l) a e = grind (arith, same_itself, fresh-none l a)
 
 pub none-fresh : (l : List Activity) (a : Activity) → NoneOf l a → fresh l a ≡ true
 unfolding fresh
-none-fresh [] a h = refl
-none-fresh (b ∷ l) a h = go (same a b) (same-eq a b) (none-fresh l a h.1)
-  where
-    go : (t : Bool) → (t ≡ true → a ≡ b) → fresh l a ≡ true → cond t false (fresh l a) ≡ true
-    go true q k = absurd (h.0 (q refl))
-    go false q k = k
+none-fresh [] a h = grind arith
+none-fresh (b ∷ l) a h = grind (arith, same-eq, none-fresh l a h.1)
 
 -- ---- a list with one more record at its end
 none_more : (l : List Activity) (a b : Activity) → NoneOf l b → (b ≡ a → ⊥) → NoneOf (l ++ (a ∷ [])) b

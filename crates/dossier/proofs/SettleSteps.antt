@@ -1,13 +1,6 @@
 -- Each step of a reader is settled by a few bytes.
 -- Assumes nothing.
-use Prim.Native.Nat.{ℕ, zero, suc, ◌+◌, ◌*◌, ◌≤◌}
-use mathlib.Core.Path.{◌≡◌, refl}
-use mathlib.Core.Bool.{Bool, true, false, cond}
-use mathlib.Core.List.{List, ◌++◌}
-use native.Mathlib.Omega.{arith}
-use borrow.Author.Tests.{lt-ltb, le-ltb}
-use lib.Dec.{eqb}
-use lib.ListN.{length, drop, length-append, length-drop}
+use Rattle.std.proofs.Common.{ℕ, zero, suc, ◌+◌, ◌*◌, ◌≤◌, ◌≡◌, refl, Bool, true, false, cond, List, ◌++◌, arith, lt-ltb, le-ltb, eqb, length, drop, length-append, length-drop}
 use lib.Seq.{take-append-le, drop-append-le}
 use Rattle.wire.specs.Bytes.{numbers}
 use Rattle.dossier.specs.Reader.{Judged, refused, accepted, Reader, after, ◌>>=◌, ◌>>◌, give, refuse, mark, stands, upon, present, field, fields, nothing, followed}
@@ -33,11 +26,7 @@ pub record Settles {A : Type 0} (m : ℕ) (r : Reader A) : Type 0 where
 pub bind-alike : {A B : Type 0} {m : ℕ} {r : Reader A} (k : A → Reader B) → Settles m r → (n : ℕ) (s t : List ℕ) → m + n ≤ length s
     → ((a : A) (u : List ℕ) → r s ≡ accepted a u → n ≤ length u → k a (u ++ t) ≡ and_left t (k a u)) → (r >>= k) (s ++ t) ≡ and_left t ((r >>= k) s)
 unfolding followed
-bind-alike {A} {B} {m} {r} k x n s t h f = rw (x.alike s t (omega arith)) (go (r s) refl (x.leaves s n h))
-  where
-    go : (j : Judged A) → r s ≡ j → Leaves n j → after (and_left t j) k ≡ and_left t (after j k)
-    go (refused c) e l = refl
-    go (accepted a u) e l = f a u e l
+bind-alike k x n s t h f = grind (arith, x.alike s t, x.leaves s n, f)
 
 pub bind : {A B : Type 0} {m n : ℕ} {r : Reader A} {k : A → Reader B} → Settles m r → ((a : A) → Settles n (k a)) → Settles (m + n) (r >>= k)
 unfolding followed
@@ -81,9 +70,7 @@ either true x y = x
 either false x y = y
 
 stands_alike : (kind : ℕ → Bool) (s t : List ℕ) → 2 ≤ length s → stands kind (s ++ t) ≡ stands kind s
-stands_alike kind s t h =
-    let g : 2 ≤ length (s ++ t) = simp length-append (omega arith) in
-    rw (stands_here kind (s ++ t) g, stands_here kind s h, take-append-le 2 s t h)
+stands_alike kind s t h = grind (arith, take-append-le, stands_here, length-append {A = ℕ})
 
 choice : {A : Type 0} {m : ℕ} {r q : Reader A} (kind : ℕ → Bool) → Settles m r → Settles m q → 2 ≤ m → Settles m (upon kind r q)
 unfolding upon
@@ -103,25 +90,16 @@ refusal n = record { alike = λ s t h. refl; leaves = λ s l h. tt }
 
 a-field : (w : ℕ) → Settles w (field w)
 unfolding field
-a-field w = record {
-  alike = λ s t h. rw (take-append-le w s t h, drop-append-le w s t h);
-  leaves = λ s l h. simp length-drop (omega arith);
-}
+a-field w = grind (arith, take-append-le, drop-append-le, length-drop {A = ℕ})
 
 numbers-alike : (k w : ℕ) (s t : List ℕ) → k * w ≤ length s → numbers k w (s ++ t) ≡ numbers k w s
 unfolding numbers
-numbers-alike zero w s t h = refl
-numbers-alike (suc k) w s t h =
-    let g : w ≤ length s = omega arith in
-    let i = numbers-alike k w (drop w s) t (simp length-drop (omega arith)) in
-    rw (take-append-le w s t g, drop-append-le w s t g, i)
+numbers-alike zero w s t h = grind arith
+numbers-alike (suc k) w s t h = grind (arith, take-append-le, drop-append-le, numbers-alike k w (drop w s) t (simp length-drop (omega arith)))
 
 some_fields : (k w : ℕ) → Settles (k * w) (fields k w)
 unfolding fields
-some_fields k w = record {
-  alike = λ s t h. rw (numbers-alike k w s t h, drop-append-le (k * w) s t h);
-  leaves = λ s l h. simp length-drop (omega arith);
-}
+some_fields k w = grind (arith, numbers-alike, drop-append-le, length-drop {A = ℕ})
 
 -- a mark is a field of two bytes
 marks : (m : ℕ) → Settles 2 (mark m)
@@ -145,16 +123,4 @@ abbrev pub AnyCause : ℕ → Type 0
 AnyCause n = Unit {0}
 
 pub settles : Closed AnyCause SettledBy
-settles = record {
-  bind = λ x y. bind x y;
-  told = λ x h f. told x h f;
-  more = λ x h. more x h;
-  choice = λ kind x y h. choice kind x y h;
-  present = λ x h. presents x h;
-  give = λ a. given a;
-  refuse = λ n h. refusal n;
-  field = λ w. a-field w;
-  fields = λ k w. some_fields k w;
-  mark = λ m. marks m;
-  nothing = nothings;
-}
+settles = search (bind, told, more, choice, presents, given, refusal, a-field, some_fields, marks, nothings)

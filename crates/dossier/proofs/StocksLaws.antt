@@ -1,12 +1,7 @@
 -- ST: what is accepted is exactly the encoding of a list of stocks in range; and the built-in list may be filed.
 -- Assumes nothing.
-use Prim.Native.Nat.{ℕ, ◌+◌, ◌^◌}
-use mathlib.Core.Path.{◌≡◌, refl}
+use Rattle.std.proofs.Common.{ℕ, ◌+◌, ◌^◌, ◌≡◌, refl, List, append-nil, arith, lit<, length, length-append}
 use mathlib.Core.Option.{Option, none, some}
-use mathlib.Core.List.{List, append-nil}
-use native.Mathlib.Omega.{arith}
-use lib.Dec.{lit<}
-use lib.ListN.{length, length-append}
 use Rattle.classes.specs.Classes.{carbon_stocks}
 use Rattle.wire.specs.Bytes.{joined}
 use Rattle.wire.proofs.BytesLaws.{Below, below-entries, length-bytes, length-each}

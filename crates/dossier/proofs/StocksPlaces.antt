@@ -1,16 +1,8 @@
 -- The numbers of ST at its place: 11 where a field is out of range, 1 where it is cut, 2 where it stands a second time or after PA. Of a dossier
 -- and of an opening piece alike.
 -- Assumes nothing.
-use Prim.Native.Nat.{ℕ, ◌^◌, ◌≤◌, ◌<◌}
-use mathlib.Core.Path.{◌≡◌, refl, ◌∙◌, sym}
-use mathlib.Core.Bool.{Bool, true, false, cond}
-use mathlib.Core.Logic.{◌⊎◌, inl, inr}
+use Rattle.std.proofs.Common.{ℕ, ◌^◌, ◌≤◌, ◌<◌, ◌≡◌, ◌∙◌, sym, List, ◌++◌, arith, lit<, length, get_or, length-append}
 use mathlib.Core.Option.{Option, none, some}
-use mathlib.Core.List.{List, ◌++◌}
-use native.Mathlib.Omega.{arith}
-use borrow.Author.Tests.{eqb-true}
-use lib.Dec.{eqb, lit<}
-use lib.ListN.{length, get_or, length-append}
 use Rattle.activity.specs.Activity.{Within}
 use Rattle.classes.specs.Classes.{classes, class_nf, greatest_stock}
 use Rattle.wire.specs.Bytes.{bytes, numbers, bytes_of_each}
@@ -18,7 +10,7 @@ use Rattle.wire.proofs.BytesLaws.{Below, length-bytes, length-each, take-bytes, 
 use Rattle.dossier.specs.Marks.{mark_st, mark_pa, mark_da}
 use Rattle.dossier.specs.Plan.{Plan}
 use Rattle.dossier.specs.Records.{Head, HeadInRange, head_bytes, StocksInRange, stocks_bytes, AreasInRange, areas_bytes, bytes_if_any}
-use Rattle.dossier.specs.Reader.{refused, accepted, Reader, after, ◌>>◌, give, begin, fields, is, if_any, within, equal, followed}
+use Rattle.dossier.specs.Reader.{refused, accepted, Reader, ◌>>◌, give, begin, fields, is, if_any, outside, within, equal, followed}
 use Rattle.dossier.specs.JudgingRecords.{each, stocks, stocks_if_any, areas}
 use Rattle.dossier.specs.Judging.{opening, dossier, opening_piece}
 use Rattle.dossier.proofs.ReaderLaws.{bind_no, begin-yes, stands-bytes}
@@ -51,19 +43,8 @@ module _ (xs : List ℕ) (twelve : length xs ≡ 12) (small : Below (256 ^ 2) xs
   limits = within_tests 11 0 (λ i. get_or xs i 0) greatest_stock
 
   tested : (u : List ℕ) → (StocksInRange xs → ⊥) → (each classes limit >> (equal 11 (get_or xs class_nf 0) 0 >> give xs)) u ≡ refused 11
-  unfolding followed
-  tested u f = limited (each-either limits 12 u)
-    where
-      zero : (b : Bool) → (b ≡ true → ⊥) → after (cond b (accepted (tt {0}) u) (refused 11)) (λ _. give xs) ≡ refused 11
-      zero true g = absurd (g refl)
-      zero false g = refl
-
-      limited : (each 12 limit u ≡ accepted tt u) ⊎ (each 12 limit u ≡ refused 11)
-          → after (each classes limit u) (λ _. equal 11 (get_or xs class_nf 0) 0 >> give xs) ≡ refused 11
-      limited (inl e) =
-          let in-limits = (each-only limits 12 u e).0 in
-          rw e (unfold equal in zero (eqb (get_or xs class_nf 0) 0) (λ b. f (record { twelve = twelve; each = λ i l. (in-limits i l).most; non_forest = eqb-true _ _ b })))
-      limited (inr e) = rw e
+  unfolding each within equal outside give followed
+  tested u f = grind (arith, each-either limits 12 u, each-only limits 12 u)
 
   stocks_wrong : (t : List ℕ) → (StocksInRange xs → ⊥) → stocks (bytes 2 mark_st ++ (bytes_of_each 2 xs ++ t)) ≡ refused 11
   unfolding stocks fields followed

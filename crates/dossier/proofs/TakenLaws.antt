@@ -1,24 +1,17 @@
 -- What stands for a year's activity records, own ones or PL: what is accepted is exactly their bytes, or PL where the plan has the year.
 -- Assumes nothing.
-use Prim.Native.Nat.{ℕ, ◌≤◌, ◌<◌}
-use mathlib.Core.Path.{◌≡◌, refl, ◌∙◌, ap, sym}
-use mathlib.Core.Bool.{Bool, true, false, cond}
+use Rattle.std.proofs.Common.{ℕ, ◌≤◌, ◌<◌, ◌≡◌, refl, ◌∙◌, Bool, true, false, List, [], ◌∷◌, ◌++◌, map, append_assoc, arith, le-ltb, eq-eqb, length, drop, ⊎_elim}
 use mathlib.Core.Option.{Option, none, some}
-use mathlib.Core.List.{List, [], ◌∷◌, ◌++◌, map, append_assoc}
-use native.Mathlib.Omega.{arith}
-use borrow.Author.Tests.{le-ltb, eq-eqb, eqb-true}
-use lib.Dec.{ltb, eqb, lit<}
-use lib.ListN.{length, take, drop}
 use Rattle.activity.specs.Records.{Activity}
 use Rattle.activity.specs.Activity.{RunInRange}
-use Rattle.wire.specs.Bytes.{Bytes, number, bytes, joined}
+use Rattle.wire.specs.Bytes.{Bytes, bytes, joined}
 use Rattle.dossier.specs.Marks.{mark_pl}
 use Rattle.dossier.specs.Layouts.{activity_bytes}
 use Rattle.dossier.specs.Records.{RecordsInRange, records_bytes}
 use Rattle.dossier.specs.Reader.{refused, accepted, after, give, refuse, mark, stands, is, upon, followed}
 use Rattle.dossier.specs.JudgingRecords.{activity_mark}
 use Rattle.dossier.specs.Judging.{activities, Taken, from_the_plan, taken}
-use Rattle.dossier.proofs.ReaderLaws.{no, step, was, mark-yes, mark-only, stands_short, stands-bytes, stood}
+use Rattle.dossier.proofs.ReaderLaws.{step, was, mark-yes, mark-only, stands_short, stands-bytes, stood, chosen}
 use Rattle.dossier.proofs.Exact.{Exact}
 use Rattle.dossier.proofs.ExactParts.{Any}
 use Rattle.dossier.proofs.ActivityLaws.{begins_activity}
@@ -37,15 +30,7 @@ planned_other = refl
 -- where an activity mark stands, PL does not
 pub activity-not-planned : (s : List ℕ) → stands activity_mark s ≡ true → stands (is mark_pl) s ≡ false
 unfolding stands
-activity-not-planned s e = go (ltb (length s) 2) (eqb (number (take 2 s)) mark_pl) (eqb-true _ _) e
-  where
-    go : (short b : Bool) → (b ≡ true → number (take 2 s) ≡ mark_pl) → cond short false (activity_mark (number (take 2 s))) ≡ true → cond short false b ≡ false
-    go true b f e = refl
-    go false false f e = refl
-    go false true f e =
-        let other : activity_mark mark_pl ≡ true = rw (f refl) at e in
-        let z : ◌≡◌ {A = ℕ} 0 1 = ap (λ (b : Bool). cond b 0 1) (sym other ∙ planned_other) in
-        absurd (omega arith)
+activity-not-planned s e = grind (arith, planned_other)
 
 -- neither an activity mark nor PL stands before t
 abbrev pub Beyond : List ℕ → Type 0
@@ -95,42 +80,32 @@ TakenThen from_plan r t = RecordsInRange from_plan r.planned r.activities × Fol
 module _ (from_plan : Option (List Activity)) where
   taken-reads : (planned : Bool) (l : List Activity) (t : List ℕ) → RecordsInRange from_plan planned l → Follows planned l t
       → taken from_plan (records_bytes planned l ++ t) ≡ accepted (record { planned = planned; activities = l }) t
-  unfolding taken upon records_bytes run_bytes followed give
-  taken-reads false l t p f = rw (f.1, activities_exact.reads l t tt (p, f.0))
-  taken-reads true l t p f = rw (stands-bytes (is mark_pl) mark_pl t (lit< tt), mark-yes mark_pl t (lit< tt), p) (unfold from_the_plan give in refl)
+  unfolding taken upon records_bytes run_bytes from_the_plan followed give
+  taken-reads planned l t p f = grind (arith, activities_exact.reads, stands-bytes, mark-yes)
 
   from_the_plan-only : (m : Option (List Activity)) (s : List ℕ) {r : Taken} {t : List ℕ} → from_the_plan m s ≡ accepted r t
       → (r.planned ≡ true) × (m ≡ some r.activities) × (s ≡ t)
   unfolding from_the_plan give refuse
-  from_the_plan-only none s e = no _ _ _ e
-  from_the_plan-only (some l) s e =
-      let w = was e in
-      (ap (λ (r : Taken). r.planned) (sym w.0), ap (λ (r : Taken). some r.activities) w.0, w.1)
+  from_the_plan-only m s e = grind arith
 
   -- PL was read, and the plan's records; or own ones
   taken-only : (s : List ℕ) → Bytes s → (r : Taken) (t : List ℕ) → taken from_plan s ≡ accepted r t → TakenThen from_plan r t × (s ≡ records_bytes r.planned r.activities ++ t)
-  unfolding taken upon followed
-  taken-only s bs r t q = go (stands (is mark_pl) s) refl q
+  unfolding taken upon followed give
+  taken-only s bs r t q =
+      ⊎_elim (λ w.
+      let (h, x, u, e, f) = w in
+      let g = from_the_plan-only from_plan u f in
+      rw g.0 ((g.1, tt), unfold records_bytes in mark-only mark_pl s bs e ∙ rw g.2))
+      (λ w.
+      let (l, u, e, f) = step (activities [] s) (λ l. accepted (record { planned = false; activities = l })) w.1 in
+      let g = activities_exact.only s bs (omega arith) l u e in
+      own l u w.0 g.1 g.2 f)
+      (chosen (stands (is mark_pl) s) (mark mark_pl s) (λ _. from_the_plan from_plan) _ q)
     where
-      planned : (u : List ℕ) → s ≡ bytes 2 mark_pl ++ u → (r.planned ≡ true) × (from_plan ≡ some r.activities) × (u ≡ t)
-          → TakenThen from_plan r t × (s ≡ records_bytes r.planned r.activities ++ t)
-      planned u e w = rw w.0 ((w.1, tt), unfold records_bytes in e ∙ rw w.2)
-
       own : (l : List Activity) (u : List ℕ) → stands (is mark_pl) s ≡ false → RunInRange l × Over u → s ≡ joined (map activity_bytes l) ++ u
           → accepted (record { planned = false; activities = l }) u ≡ accepted r t → TakenThen from_plan r t × (s ≡ records_bytes r.planned r.activities ++ t)
       own l u h p e w =
           rw (← (was w).0, ← (was w).1) ((p.0, (p.1, unfold run_bytes in rw (← e) h)), unfold records_bytes in e)
-
-      go : (b : Bool) → stands (is mark_pl) s ≡ b
-          → cond b (after (mark mark_pl s) (λ _. from_the_plan from_plan)) (after (activities [] s) (λ l. give (record { planned = false; activities = l }))) ≡ accepted r t
-          → TakenThen from_plan r t × (s ≡ records_bytes r.planned r.activities ++ t)
-      go true h q =
-          let f = step (mark mark_pl s) (λ _. from_the_plan from_plan) q in
-          planned f.1 (mark-only mark_pl s bs f.2) (from_the_plan-only from_plan f.1 f.3)
-      go false h q =
-          let f = step (activities [] s) (λ l. give (record { planned = false; activities = l })) q in
-          let g = activities_exact.only s bs (omega arith) f.0 f.1 f.2 in
-          own f.0 f.1 h g.1 g.2 (unfold give in f.3)
 
   pub taken_exact : Exact 0 Any (taken from_plan) (λ (r : Taken). records_bytes r.planned r.activities) (TakenThen from_plan)
   taken_exact = record {

@@ -1,12 +1,7 @@
 -- What is judged under a plan that is lent as bytes.
 -- Assumes nothing.
-use Prim.Native.Nat.{ℕ}
-use mathlib.Core.Path.{◌≡◌, refl, ◌∙◌, ap, sym, subst}
-use mathlib.Core.Logic.{inl, inr}
+use Rattle.std.proofs.Common.{ℕ, ◌≡◌, refl, List, [], ◌∷◌, T, take, arith}
 use mathlib.Core.Option.{Option, none}
-use mathlib.Core.List.{List, [], ◌∷◌}
-use lib.Dec.{T}
-use lib.ListN.{take}
 use Rattle.wire.specs.Bytes.{Bytes}
 use Rattle.dossier.specs.Causes.{plan_not_of_form, record_repeated, year_causes, ◌∈◌}
 use Rattle.dossier.specs.Plan.{Plan, PlanLent}
@@ -14,7 +9,7 @@ use Rattle.dossier.specs.Records.{Due, WellFormedPlan}
 use Rattle.dossier.specs.Reader.{Judged, refused, accepted, Reader, after, give, if_any}
 use Rattle.dossier.specs.Judging.{dossier, year_piece}
 use Rattle.dossier.specs.JudgingPlan.{lent_plan, under}
-use Rattle.dossier.proofs.CauseLaws.{listed, plan_causes, without, not_listed, dossier_causes}
+use Rattle.dossier.proofs.CauseLaws.{listed, without, not_listed, dossier_causes}
 use Rattle.dossier.proofs.Causes.{Numbered, year_piece-causes, dossier_causes_lem}
 use Rattle.dossier.proofs.PlanLaws.{lent_plan-refused}
 use Rattle.dossier.proofs.WellFormed.{plan-accepted}
@@ -56,16 +51,7 @@ no_plan judge s = no_plan_there judge s [] refl
 pub under-causes : {A : Type 0} (judge : Option Plan → Reader A) (own : List ℕ) → record_repeated ∈ own → ((p : Option Plan) → Numbered own (judge p))
     → (planned : List ℕ) → Numbered (plan_not_of_form ∷ own) (under planned judge)
 unfolding under
-under-causes {A} judge own too causes planned s n e = go (lent_plan planned) refl e
-  where
-    of-plan : n ∈ plan_causes → n ∈ (plan_not_of_form ∷ own)
-    of-plan (inl c) = inl c
-    of-plan (inr (inl c)) = inr (subst (λ (m : ℕ). m ∈ own) (sym c) too)
-    of-plan (inr (inr c)) = absurd c
-
-    go : (j : Judged (Option Plan)) → lent_plan planned ≡ j → after j (λ p _. judge p s) ≡ refused n → n ∈ (plan_not_of_form ∷ own)
-    go (refused m) f e = let same : m ≡ n = cc in of-plan (rw same at (lent_plan-refused planned m f))
-    go (accepted p rest) f e = inr (causes p s n e)
+under-causes {A} judge own too causes planned s n e = grind (arith, lent_plan-refused planned, causes, too)
 
 pub year_piece-under-causes : (due : Option Plan → Due) (planned : List ℕ) → Numbered (plan_not_of_form ∷ year_causes) (under planned (λ p. year_piece (due p)))
 year_piece-under-causes due = under-causes (λ p. year_piece (due p)) year_causes (listed _ year_causes tt) (λ p. year_piece-causes (due p))
@@ -76,9 +62,7 @@ dossier-under-causes = under-causes dossier dossier_causes (listed _ dossier_cau
 -- where 12 is answered, the bytes are no plan: what is judged under a plan has other numbers
 pub under_none : {A : Type 0} (judge : Option Plan → Reader A) (own : List ℕ) → T (without plan_not_of_form own) → ((p : Option Plan) → Numbered own (judge p)) → (planned s : List ℕ)
     → under planned judge s ≡ refused plan_not_of_form → (p : Option Plan) → WellFormedPlan p planned → ⊥
-under_none judge own others causes planned s e p (lent, ep) =
-    let plan-is : lent_plan planned ≡ accepted p [] = ap lent_plan ep ∙ plan-accepted.complete p lent in
-    not_listed plan_not_of_form own others (causes p s plan_not_of_form (sym (under-accepted judge s planned p [] plan-is) ∙ e))
+under_none judge own others causes planned s e p lent = grind (arith, plan-accepted.complete, under-accepted, not_listed plan_not_of_form own others, causes p s)
 
 -- the first 65,536 bytes of a dossier settle what it is, whatever the plan
 pub under-first-bytes : (planned s : List ℕ) → Bytes planned → Bytes s → under planned dossier (take 65536 s) ≡ under planned dossier s

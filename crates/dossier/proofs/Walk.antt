@@ -1,35 +1,14 @@
 -- One walk over the readers: what every step of a reader has, and every reader made of such, the reader of each record has, of the run, of the years.
 -- Assumes nothing.
-use Prim.Native.Nat.{ℕ, zero, suc, ◌+◌, ◌*◌, ◌-◌, ◌≤◌}
-use mathlib.Core.Path.{◌≡◌, refl}
-use mathlib.Core.Bool.{Bool, true, false, cond}
-use mathlib.Core.Option.{Option, none, some}
-use mathlib.Core.List.{List, [], ◌∷◌, ◌++◌}
-use native.Mathlib.Omega.{arith}
-use borrow.Author.Tests.{ltb-false}
-use lib.Dec.{T, ltb, eqb, lit≤}
-use lib.ListN.{length}
+use Rattle.std.proofs.Common.{ℕ, zero, suc, ◌+◌, ◌*◌, ◌-◌, ◌≤◌, ◌≡◌, Bool, true, false, cond, List, [], ◌∷◌, ◌++◌, arith, T, ltb, eqb, lit≤, length}
+use mathlib.Core.Option.{Option, none}
 use Rattle.activity.specs.Records.{Activity}
 use Rattle.activity.specs.Activity.{Range, ranges, residues}
 use Rattle.figures.specs.Year.{Year}
 use Rattle.wire.specs.Bytes.{total}
-use Rattle.dossier.specs.Causes.{
-  mark_not_due,
-  head_out_of_range,
-  stock_out_of_range,
-  area_total_wrong,
-  row_sum_wrong,
-  year_wrong,
-  conversion_total_wrong,
-  activity_out_of_range,
-  too_many_activities,
-  planned_year_wrong,
-  record_repeated,
-  opening_causes,
-  year_causes,
-  ◌∈◌,
-}
-use Rattle.dossier.specs.Marks.{mark_st, mark_yr, mark_cr, mark_pl, mark_en}
+use Rattle.dossier.specs.Causes.{mark_not_due, head_out_of_range, stock_out_of_range, area_total_wrong, row_sum_wrong, year_wrong, conversion_total_wrong}
+use Rattle.dossier.specs.Causes.{activity_out_of_range, too_many_activities, planned_year_wrong, record_repeated, opening_causes, year_causes, ◌∈◌}
+use Rattle.dossier.specs.Marks.{mark_st, mark_yr, mark_pl, mark_en}
 use Rattle.dossier.specs.Layouts.{Made, Layout, layouts}
 use Rattle.dossier.specs.Records.{Due, next}
 use Rattle.dossier.specs.Reader.{accepted, Reader, ◌>>=◌, ◌>>◌, give, refuse, mark, is, upon, if_any, present, begin, field, fields, outside, within, equal, holds, nothing, followed}
@@ -73,8 +52,7 @@ module _ (Allowed : ℕ → Type 0) (P : (A : Type 0) → ℕ → Reader A → T
   seq x y = c.bind x (λ _. y)
 
   one_of : {A : Type 0} {m : ℕ} {r q : Reader A} (b : Bool) → P _ m r → P _ m q → P _ m (cond b r q)
-  one_of true x y = x
-  one_of false x y = y
+  one_of b x y = grind arith
 
   tested : {A : Type 0} {m : ℕ} {r q : Reader A} (b : Bool) → P _ m r → P _ m q → P _ m (λ s. cond b (r s) (q s))
   tested true x y = x
@@ -167,11 +145,7 @@ module _ (Allowed : ℕ → Type 0) (P : (A : Type 0) → ℕ → Reader A → T
     -- after two of CR it is an ordinary one
     pub one_activity : (before : List Activity) → P _ (cond (ltb 1 (residues before)) 15 21) (another before)
     unfolding another
-    one_activity before = go (ltb 1 (residues before))
-      where
-        go : (b : Bool) → P _ (cond b 15 21) (upon (λ m. cond (is mark_cr m) b false) (refuse too_many_activities) activity)
-        go true = rw only-ordinary (c.choice _ (c.more (c.refuse too_many_activities many) (omega arith)) ordinary_one (omega arith))
-        go false = c.choice _ (c.more (c.refuse too_many_activities many) (omega arith)) any_activity (omega arith)
+    one_activity before = grind (arith, only-ordinary, ordinary_one, any_activity)
 
   -- ---- the years, where their own causes are allowed
   module _ (own : (n : ℕ) → n ∈ year_causes → Allowed n) where
@@ -183,11 +157,7 @@ module _ (Allowed : ℕ → Type 0) (P : (A : Type 0) → ℕ → Reader A → T
     run_size k before = k * 15 + 6 * (2 - residues before) + 2
 
     one_fits : (k : ℕ) (before : List Activity) → residues before ≤ 2 → cond (ltb 1 (residues before)) 15 21 ≤ run_size (suc k) before
-    one_fits k before few = go (ltb 1 (residues before)) (ltb-false _ _)
-      where
-        go : (b : Bool) → (b ≡ false → residues before ≤ 1) → cond b 15 21 ≤ run_size (suc k) before
-        go true h = omega arith
-        go false h = omega (arith, h refl)
+    one_fits k before few = grind arith
 
     runs : (k : ℕ) (before : List Activity) → residues before ≤ 2 → P _ (run_size k before) (run k before)
     unfolding run
@@ -212,8 +182,7 @@ module _ (Allowed : ℕ → Type 0) (P : (A : Type 0) → ℕ → Reader A → T
 
     from_the_plan_lem : (from_plan : Option (List Activity)) → P _ 0 (from_the_plan from_plan)
     unfolding from_the_plan
-    from_the_plan_lem none = c.refuse planned_year_wrong (of-year tt)
-    from_the_plan_lem (some records) = c.give _
+    from_the_plan_lem from_plan = grind arith
 
     -- own records, or PL
     records-taken : (from_plan : Option (List Activity)) → P _ 914 (taken from_plan)

@@ -1,10 +1,7 @@
 -- Accepted exactly when well formed: the dossier, an opening piece, a year piece, a plan; and one value for its bytes.
 -- Assumes nothing.
-use Prim.Native.Nat.{ℕ}
-use mathlib.Core.Path.{◌≡◌, refl, ◌∙◌, ap, sym}
+use Rattle.std.proofs.Common.{ℕ, ◌≡◌, refl, ◌∙◌, ap, sym, List, [], ◌++◌, append-nil, arith}
 use mathlib.Core.Option.{Option}
-use mathlib.Core.List.{List, [], ◌++◌, append-nil}
-use native.Mathlib.Omega.{arith}
 use Rattle.activity.specs.Records.{Activity}
 use Rattle.activity.specs.Activity.{ActivityInRange}
 use Rattle.figures.specs.Year.{Year}

@@ -1,15 +1,8 @@
 -- A year: what is accepted is exactly the encoding of the year that is due.
 -- Assumes nothing.
-use Prim.Native.Nat.{ℕ, ◌<◌, ◌≤◌}
-use mathlib.Core.Path.{◌≡◌, refl, ◌∙◌, ap, sym}
-use mathlib.Core.Bool.{Bool, true, false, cond}
-use mathlib.Core.Logic.{⊎_elim}
+use Rattle.std.proofs.Common.{ℕ, ◌<◌, ◌≤◌, ◌≡◌, refl, ◌∙◌, ap, sym, Bool, true, false, cond, List, [], ◌∷◌, ◌++◌, append_assoc, append-nil, arith, eqb-true, ne_eqb, eqb, lit<, length-append}
 use mathlib.Core.Option.{Option}
-use mathlib.Core.List.{List, [], ◌∷◌, ◌++◌, append_assoc, append-nil}
-use native.Mathlib.Omega.{arith}
-use borrow.Author.Tests.{eqb-true, eqb-false, ne_eqb}
-use lib.Dec.{eqb, lit<}
-use lib.ListN.{length-append}
+use borrow.Author.Tests.{eqb-false}
 use Rattle.classes.specs.Calendar.{days_in_year}
 use Rattle.classes.proofs.CalendarLaws.{days_range}
 use Rattle.activity.specs.Records.{Activity}
@@ -22,7 +15,7 @@ use Rattle.dossier.specs.Plan.{Plan, records_for}
 use Rattle.dossier.specs.Records.{Due, ConversionsInRange, conversions_bytes, RecordsInRange, records_bytes, figures_for, YearInRange, year_bytes}
 use Rattle.dossier.specs.Claims.{DueInRange}
 use Rattle.dossier.specs.Reader.{refused, accepted, begin, stands, followed}
-use Rattle.dossier.specs.Judging.{activities, taken, none_left, year_records, year_left, allowed, year}
+use Rattle.dossier.specs.Judging.{taken, none_left, year_records, year_left, allowed, year}
 use Rattle.wire.proofs.BytesLaws.{length-bytes}
 use Rattle.dossier.proofs.ReaderLaws.{no, step, begin-only, within-yes, equal-yes, stands-bytes}
 use Rattle.dossier.proofs.Refusals.{none_left_lem, left_for, left-refused}
@@ -47,7 +40,7 @@ pub record TablesInRange (due : Due) (y : Year) : Type 0 where
   pub belt_conversions : ConversionsInRange due.terms.beltstart.0 y.belt_conversions
 
 pub tables-of : (due : Due) (y : Year) → YearInRange due y → TablesInRange due y
-tables-of due y p = record { left = p.left; year = p.year; days = p.days; conversions = p.conversions; belt_conversions = p.belt_conversions }
+tables-of due y p = search
 
 -- and the records, whatever figures they make, and what may follow them
 pub record LeftInRange (due : Due) (y : Year) : Type 0 where
@@ -110,62 +103,30 @@ pub left_exact : (due : Due) → DueInRange due → Exact 0 Any (left_for due) y
 unfolding year_left
 left_exact due h = go (eqb due.state.left 0) (eqb-true _ _) (eqb-false _ _)
   where
-    some_left : (due.state.left ≡ 0 → ⊥) → 1 ≤ due.state.left
-    some_left f = omega arith
-
-    none_there : due.state.left ≡ 0 → Exact 0 Any none_left year_bytes (LeftThen due)
-    none_there e = record {
-      reads = λ y t c p. absurd (omega (arith, p.0.tables.left));
-      only = λ s bs l y t q. absurd (none_left-only s bs y t q);
-    }
-
     go : (b : Bool) → (b ≡ true → due.state.left ≡ 0) → (b ≡ false → due.state.left ≡ 0 → ⊥)
         → Exact 0 Any (cond b none_left (year_records (records_for due.plan due.state.year) due.state.year due.terms.start.0 due.terms.beltstart.0)) year_bytes (LeftThen due)
-    go true e f = none_there (e refl)
-    go false e f = year-due_exact due h (some_left (f refl))
+    go true e f = record { reads = λ y t c p. absurd (omega (arith, e refl, p.0.tables.left)); only = λ s bs l y t q. absurd (none_left-only s bs y t q) }
+    go false e f = year-due_exact due h (omega (arith, f refl))
 
 -- 13 is no cause where the figures are small, or the records the year's own
 allowed-small : (due : Due) (y : Year) → allowed y.planned (figures_for due y) ≡ true → y.planned ≡ true → small_activity (figures_for due y) ≡ true
-allowed-small due y e p = go y.planned p e
-  where
-    go : (b : Bool) → b ≡ true → cond b (small_activity (figures_for due y)) true ≡ true → small_activity (figures_for due y) ≡ true
-    go true p e = e
-    go false p e = let z : ◌≡◌ {A = ℕ} 0 1 = cc in absurd (omega arith)
+allowed-small due y e p = cc
 
 pub large_refused : (due : Due) (y : Year) → y.planned ≡ true → small_activity (figures_for due y) ≡ false → allowed y.planned (figures_for due y) ≡ false
-large_refused due y p e = go y.planned p
-  where
-    go : (b : Bool) → b ≡ true → cond b (small_activity (figures_for due y)) true ≡ false
-    go true p = e
-    go false p = let z : ◌≡◌ {A = ℕ} 0 1 = cc in absurd (omega arith)
+large_refused due y p e = cc
 
 small-allowed : (due : Due) (y : Year) → (y.planned ≡ true → small_activity (figures_for due y) ≡ true) → allowed y.planned (figures_for due y) ≡ true
-small-allowed due y f = go y.planned f
-  where
-    go : (b : Bool) → (b ≡ true → small_activity (figures_for due y) ≡ true) → cond b (small_activity (figures_for due y)) true ≡ true
-    go true f = f refl
-    go false f = refl
+small-allowed due y f = grind arith
 
 pub year_exact : (due : Due) → DueInRange due → Exact 0 Any (year due) year_bytes (YearThen due)
 unfolding year
 year_exact due h = restated to from (checked _ (λ y. allowed y.planned (figures_for due y)) (left_exact due h))
   where
     to : (y : Year) (t : List ℕ) → LeftThen due y t × (allowed y.planned (figures_for due y) ≡ true) → YearThen due y t
-    to y t ((p, f), a) = let q = p.tables in (
-      record {
-        left = q.left;
-        year = q.year;
-        days = q.days;
-        conversions = q.conversions;
-        belt_conversions = q.belt_conversions;
-        records = p.records;
-        small = allowed-small due y a;
-      },
-      f,
-    )
+    to y t w = search (allowed-small due y)
 
     from : (y : Year) (t : List ℕ) → YearThen due y t → LeftThen due y t × (allowed y.planned (figures_for due y) ≡ true)
-    from y t (p, f) = ((record { tables = tables-of due y p; records = p.records }, f), small-allowed due y p.small)
+    from y t w = search (small-allowed due y)
 
 -- a year begins with YR
 pub year_begins : (kind : ℕ → Bool) (y : Year) (t : List ℕ) → stands kind (year_bytes y ++ t) ≡ kind mark_yr
@@ -179,29 +140,20 @@ tables_bytes y =
 
 module _ (due : Due) (h : DueInRange due) (y : Year) (p : TablesInRange due y) where
   pub records-refused : (r : List ℕ) (n : ℕ) → taken (records_for due.plan due.state.year) r ≡ refused n → year due (tables_bytes y ++ r) ≡ refused n
-  unfolding year_left year_records followed
+  unfolding year_left year_records joined followed
   records-refused r n f =
-      let b = conversions_bytes mark_cd y.belt_conversions ++ r in
-      let c = conversions_bytes mark_cp y.conversions ++ b in
+      let c = conversions_bytes mark_cp y.conversions ++ (conversions_bytes mark_cd y.belt_conversions ++ r) in
       let z : due.state.left ≡ 0 → ⊥ = λ z. omega (arith, p.left) in
       let d : y.operating_days < 65536 = omega (arith, p.days.most, days_range y.year) in
-      let e : tables_bytes y ++ r ≡ year_record y.year y.operating_days c = unfold joined in simp (append_assoc, append-nil) in
+      let e : tables_bytes y ++ r ≡ year_record y.year y.operating_days c = simp (append_assoc, append-nil) in
       let v : y.year < 65536 = omega (arith, p.year) in
-      left-refused due _ n (rw (e, ne_eqb _ _ z)
-      (year-fields _ y.year y.operating_days c v d
-      ∙ rw (
-        equal-yes _ _ _ c p.year,
-        within-yes _ _ _ _ c p.days,
-        (conversions_exact mark_cp _ (lit< tt) h.start).reads y.conversions b tt p.conversions,
-        (conversions_exact mark_cd _ (lit< tt) h.beltstart).reads y.belt_conversions r tt p.belt_conversions,
-        f,
-      )))
+      let project = (conversions_exact mark_cp _ (lit< tt) h.start).reads y.conversions (conversions_bytes mark_cd y.belt_conversions ++ r) tt p.conversions in
+      let belt = (conversions_exact mark_cd _ (lit< tt) h.beltstart).reads y.belt_conversions r tt p.belt_conversions in
+      left-refused due _ n (rw (e, ne_eqb _ _ z) (year-fields _ y.year y.operating_days c v d ∙ rw (equal-yes _ _ _ c p.year, within-yes _ _ _ _ c p.days, project, belt, f)))
 
 -- activity records of its own, and the mark of one too many: 9, whatever follows the mark
 pub one_too_many : (from_plan : Option (List Activity)) (l : List Activity) (s : List ℕ) → RunInRange l → TooMany l s → taken from_plan (run_bytes l ++ s) ≡ refused 9
-one_too_many from_plan l s r m =
-    let f : activities [] (run_bytes l ++ s) ≡ refused 9 = activities_continue [] l s (omega (arith, r.count)) r.residue_count r.each r.different ∙ too_many l s m in
-    taken_own from_plan (run_bytes l ++ s) (run-not-planned l s (⊎_elim (λ h. h.1) (third_activity l s) m)) ∙ rw f
+one_too_many from_plan l s r m = grind (arith, activities_continue, too_many, taken_own, run-not-planned, third_activity)
 
 pub year_one_too_many : (due : Due) → DueInRange due → (y : Year) → YearInRange due y → y.planned ≡ false → (s : List ℕ) → TooMany y.activities s
     → year due (year_bytes y ++ s) ≡ refused 9

@@ -1,12 +1,6 @@
 -- The number of a refusal right after YR: year, d, and a missing table ("Causes and numbers", "Slips seen in the old product").
 -- Assumes nothing.
-use Prim.Native.Nat.{ℕ, ◌≤◌, ◌<◌}
-use mathlib.Core.Path.{◌≡◌, ◌∙◌}
-use mathlib.Core.List.{List, [], ◌∷◌, ◌++◌, append-nil}
-use native.Mathlib.Omega.{arith}
-use borrow.Author.Tests.{ne_eqb}
-use lib.Dec.{lit<}
-use lib.ListN.{length, take, length-append}
+use Rattle.std.proofs.Common.{ℕ, ◌≤◌, ◌<◌, ◌≡◌, ◌∙◌, List, [], ◌∷◌, ◌++◌, append-nil, arith, ne_eqb, lit<, length, take, length-append}
 use Rattle.classes.specs.Calendar.{days_in_year}
 use Rattle.activity.specs.Activity.{Within}
 use Rattle.wire.specs.Bytes.{number, bytes, joined}

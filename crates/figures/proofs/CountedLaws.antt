@@ -11,8 +11,8 @@ use mathlib.Core.List.{List}
 use Rattle.classes.specs.Classes.{class_nf, emission_factor, greatest_stock}
 use Rattle.classes.specs.Matrix.{entry, table_of}
 use Rattle.classes.proofs.MatrixLaws.{entry-table_of, table_of_cong}
-use Rattle.classes.proofs.FactorLaws.{factor_le, table_le}
-use Rattle.classes.specs.Ranges.{FactorsFit}
+use Rattle.classes.proofs.FactorLaws.{factor_le, table_le, table-are_factors}
+use Rattle.classes.specs.Ranges.{FactorsFit, IsStocks, AreFactors}
 use Rattle.figures.specs.Figures.{counted_factor}
 
 -- those of a table of factors are those of its factors
@@ -40,3 +40,7 @@ module _ (stocks : List ℕ) (fit : (i : ℕ) → get_or stocks i 0 ≤ greatest
 
   pub counted-fit : (option : ℕ) → FactorsFit (table_of (counted_factor option (emission_factor stocks)))
   counted-fit option k = table_le (counted_factor option (emission_factor stocks)) greatest_stock (small-counted option) k
+
+-- what holds of the Factors of the code
+pub counted_are_factors : (option : ℕ) (stocks : List ℕ) → IsStocks stocks → AreFactors (table_of (counted_factor option (emission_factor stocks)))
+counted_are_factors option stocks fit = table-are_factors (counted_factor option (emission_factor stocks)) (small-counted stocks fit.small option)

@@ -1,13 +1,12 @@
 -- Ranges in which every figure of a year fits 64 signed bits, by the ladder of the crate classes.
 -- Serves contracts of inner functions and proofs; nothing here has to be believed. Assumes nothing.
-use Rattle.std.specs.Prelude.{ℕ, ◌+◌, ◌-◌, ◌*◌, ◌≤◌, ◌<◌, List, get_or}
+use Rattle.std.specs.Prelude.{ℕ, ◌≤◌, ◌<◌, List, get_or}
 use Rattle.std.specs.Int.Signed.{mag}
 use Rattle.arithmetic.specs.Sum.{sum}
 use Rattle.classes.specs.Classes.{greatest_area}
 use Rattle.classes.specs.Ranges.{greatest_carbon, greatest_figure}
 use Rattle.projection.specs.Ranges.{SmallArea}
 use Rattle.figures.specs.declared.Figures.{Figures}
-use Rattle.figures.specs.declared.State.{State}
 use Rattle.figures.specs.declared.Terms.{Terms}
 use Rattle.figures.specs.declared.YearCarbon.{YearCarbon}
 use Rattle.figures.specs.declared.YearDays.{YearDays}
@@ -31,7 +30,7 @@ SmallNet f = (mag f.project.0 < greatest_figure) × (mag f.activity.0 < greatest
 abbrev pub SmallTable : List ℕ → Type 0
 SmallTable conversions = sum 144 (λ k. get_or conversions k 0) ≤ greatest_area
 
--- ---- what is true of every Figures, Terms and State of the code
+-- ---- all eight figures, and what is true of every Terms of the code
 pub record FiguresSmall (figures : Figures) : Type 0 where
   pub reference : mag figures.reference.0 < greatest_figure
   pub project : mag figures.project.0 < greatest_figure
@@ -45,9 +44,3 @@ pub record FiguresSmall (figures : Figures) : Type 0 where
 pub record TermsSmall (terms : Terms) : Type 0 where
   pub start : SmallArea terms.start.0
   pub beltstart : SmallArea terms.beltstart.0
-
--- so that as many more years as are left fit
-pub record StateSmall (state : State) : Type 0 where
-  pub left : state.left ≤ 20
-  pub year : state.year + state.left ≤ 2220
-  pub total : mag state.total.0 ≤ (20 - state.left) * greatest_figure

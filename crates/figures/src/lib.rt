@@ -8,6 +8,7 @@ ghost use Rattle.classes.specs.Matrix.{entry, table_of};
 ghost use Rattle.classes.specs.Ranges.{greatest_emissions, greatest_activity, greatest_figure};
 ghost use Rattle.figures.specs.Figures.{reference_level, counted_factor, stock_change_emissions, displaced_emissions, credited_of, tonnes_of, no_figures, small_activity};
 ghost use Rattle.figures.specs.Carbon.{carbon_figures};
+ghost use Rattle.figures.specs.Ranges.{FiguresSmall, SmallNet};
 ghost use Rattle.figures.specs.Nothing.{no_terms, no_state};
 
 use classes::{Factors, Matrix, Stocks};
@@ -19,6 +20,8 @@ use units::{AreaUnits, CarbonUnits, Grams};
 /// most 10^12 area units.
 #[derive(Clone, Copy, Debug)]
 pub struct Terms {
+    // A number and not an enum: a refused opening leaves 0, and the factors that count are defined for any number, so that an enum would
+    // be turned back into its number at each use.
     pub option: u64,
     pub stocks: Stocks,
     pub matrix: Matrix,
@@ -40,7 +43,7 @@ impl Model for Terms {
     ghost invariant = { λ t. TermsSmall (record { option = t.option; stocks = t.stocks; matrix = t.matrix; start = t.start; beltstart = t.beltstart }) };
 }
 
-/// What years change: the year that is due, the years left, at most 20, both regions, and the total credited.
+/// What years change: the year that is due, the years left, both regions, and the total credited.
 #[derive(Clone, Copy, Debug)]
 pub struct State {
     pub year: u64,
@@ -48,20 +51,6 @@ pub struct State {
     pub project: Region,
     pub belt: Region,
     pub total: Grams,
-}
-
-impl Model for State {
-    ghost use Rattle.figures.specs.Values.{StateValue};
-
-    ghost Value = { StateValue };
-
-    ghost use Rattle.figures.specs.Ranges.{StateSmall};
-
-    ghost view = { λ s. record { year = s.year; left = s.left; project = s.project; belt = s.belt; total = s.total } };
-
-    ghost inverse = { λ s. record { year = s.year; left = s.left; project = s.project; belt = s.belt; total = s.total } };
-
-    ghost invariant = { λ s. StateSmall (record { year = s.year; left = s.left; project = s.project; belt = s.belt; total = s.total }) };
 }
 
 /// The eight figures of a year in grams of CO2, in the order in which they are reported.
@@ -75,20 +64,6 @@ pub struct Figures {
     pub displaced: Grams,
     pub reduction: Grams,
     pub credited: Grams,
-}
-
-impl Model for Figures {
-    ghost use Rattle.figures.specs.Values.{FiguresValue};
-
-    ghost Value = { FiguresValue };
-
-    ghost use Rattle.figures.specs.Ranges.{FiguresSmall};
-
-    ghost view = { λ f. record { reference = f.reference; project = f.project; activity = f.activity; belt = f.belt; belt_reference = f.belt_reference; displaced = f.displaced; reduction = f.reduction; credited = f.credited } };
-
-    ghost inverse = { λ f. record { reference = f.reference; project = f.project; activity = f.activity; belt = f.belt; belt_reference = f.belt_reference; displaced = f.displaced; reduction = f.reduction; credited = f.credited } };
-
-    ghost invariant = { λ f. FiguresSmall (record { reference = f.reference; project = f.project; activity = f.activity; belt = f.belt; belt_reference = f.belt_reference; displaced = f.displaced; reduction = f.reduction; credited = f.credited }) };
 }
 
 /// The carbon of a region in a year: by its projection, and by its monitored conversions; each is at most that of 10^12 area units at the greatest factor.
@@ -140,11 +115,9 @@ pub struct FactorTables {
     pub monitored: Factors,
 }
 
-/// A factor into a class, if it counts for monitored conversions.
+/// A factor into a class, if it counts for monitored conversions under the option of this number (see `Terms`).
 fn counted_factor(option: u64, factor: u64, to: usize) -> u64
-    requires { factor ≤ greatest_stock }
-    ensures value { result ≡ cond (eqb option 1) (cond (eqb to class_nf) factor 0) factor }
-    ensures small { result ≤ greatest_stock }
+    ensures { result ≡ cond (eqb option 1) (cond (eqb to class_nf) factor 0) factor }
 {
     if option == 1 && to != classes::NF {
         0
@@ -153,14 +126,29 @@ fn counted_factor(option: u64, factor: u64, to: usize) -> u64
     }
 }
 
-/// Takes those of these factors that count for monitored conversions.
-fn count_factors(counted: &mut Factors, factors: &Factors, option: u64)
+/// Fills a table with those of these factors that count for monitored conversions.
+fn fill_counted(counted: &mut [u64; 144], factors: &[u64; 144], option: u64)
     ensures { counted.new ≡ table_of (counted_factor option (entry factors.now)) }
 {
     classes::fill_table(
-        &mut counted.entries,
-        |from, to| counted_factor(option, factors.factor(from, to), to),
+        counted,
+        |from, to| counted_factor(option, factors[classes::place(from, to)], to),
     );
+}
+
+/// Fills both tables of factors: the emission factors, for the projection, and those that count for monitored conversions.
+#[tactic(auto, using(crate::proofs::CountedLaws::counted_table))]
+pub fn fill_factors(
+    factors: &mut [u64; 144],
+    counted: &mut [u64; 144],
+    stocks: &[u64; 12],
+    option: u64,
+)
+    ensures factors { factors.new ≡ table_of (emission_factor stocks.now) }
+    ensures counted { counted.new ≡ table_of (counted_factor option (emission_factor stocks.now)) }
+{
+    classes::fill_factors(factors, stocks);
+    fill_counted(counted, factors, option);
 }
 
 impl FactorTables {
@@ -180,8 +168,17 @@ impl FactorTables {
         ensures projected { self.new.projected ≡ table_of (emission_factor terms.now.stocks) }
         ensures monitored { self.new.monitored ≡ table_of (counted_factor terms.now.option (emission_factor terms.now.stocks)) }
     {
-        self.projected.take_stocks(&terms.stocks);
-        count_factors(&mut self.monitored, &self.projected, terms.option);
+        let FactorTables {
+            projected,
+            monitored,
+        } = self;
+        let stocks = &terms.stocks;
+        fill_factors(
+            &mut projected.entries,
+            &mut monitored.entries,
+            &stocks.by_class,
+            terms.option,
+        );
     }
 }
 
@@ -243,6 +240,7 @@ impl YearCarbon {
         let carbon = self.projected.0;
         let weight = 11 * days.operating;
         let divisor = 300 * days.calendar;
+        // `as`: proved to fit, so that `try_from` would bring a case that never comes. So in `stock_change_emissions`.
         Grams((carbon / divisor * weight + carbon % divisor * weight / divisor) as i64)
     }
 
@@ -297,7 +295,8 @@ pub fn year_figures(
     days: YearDays,
 ) -> Figures
     requires { mag activity.0 ≤ greatest_activity }
-    ensures { result ≡ carbon_figures project belt activity.0 days }
+    ensures value { result ≡ carbon_figures project belt activity.0 days }
+    ensures small { FiguresSmall result }
 {
     let reference = project.reference_level(days);
     let emitted = project.stock_change_emissions();
@@ -321,6 +320,7 @@ pub fn year_figures(
 /// Whether a year's activity emissions are small enough for planned quantities: below five percent of its project net emissions.
 #[tactic(auto, unfolding(crate::specs::Figures::small_activity))]
 pub fn small_activity(figures: &Figures) -> bool
+    requires { SmallNet figures.now }
     ensures { result ≡ small_activity figures.now }
 {
     let net = figures.project + figures.displaced + figures.activity;

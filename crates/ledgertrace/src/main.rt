@@ -9,55 +9,29 @@
 //! one, the line `buffer changed` follows.
 #![tactic(auto)]
 
-ghost use Rattle.std.specs.Prelude.{◌≡◌, ◌≢◌, ◌≤◌, length};
+ghost use Rattle.std.specs.Prelude.{◌≡◌, ◌≤◌, length, IfOk, IfSome};
+ghost use Rattle.ledgertrace.specs.Plans.{Fits, plan_after};
 
+use arrayvec::ArrayVec;
 use console::FILLING;
 use reckoner::{Ledger, Step};
-use refusals::Refusal;
-use std::alloc::Global;
 use std::io;
 use std::io::{Read, Write};
 
-/// What a call of the list asks for.
-#[derive(Clone, Copy, Debug, PartialEq, Eq)]
-enum Call {
-    Open,
-    Year,
-    Plan,
-    Close,
-}
-
-/// A byte that no call begins with.
-#[derive(Clone, Copy, Debug, PartialEq, Eq)]
-struct UnknownCall(u8);
-
-impl TryFrom<u8> for Call {
-    type Error = UnknownCall;
-
-    fn try_from(mark: u8) -> Result<Self, UnknownCall> {
-        match mark {
-            b'O' => Ok(Call::Open),
-            b'Y' => Ok(Call::Year),
-            b'P' => Ok(Call::Plan),
-            b'C' => Ok(Call::Close),
-            _ => Err(UnknownCall(mark)),
-        }
-    }
+/// What a call of the list asks for, with the bytes that it brings; a closing is lent its buffer.
+#[derive(Drop)]
+enum Call<'a> {
+    Open(&'a [u8]),
+    Year(&'a [u8]),
+    Plan(&'a [u8]),
+    Close(&'a mut [u8]),
 }
 
 /// The ledger, and the plan that each year is lent.
 #[derive(Drop)]
 struct Trace {
     ledger: Ledger,
-    plan: Vec<u8>,
-}
-
-/// The number that a line has: that of a refusal, or 0.
-fn number(answer: Result<(), Refusal>) -> u8 {
-    match answer {
-        Ok(()) => 0,
-        Err(refusal) => refusal.number(),
-    }
+    plan: ArrayVec<u8, 65_536>,
 }
 
 /// Prints the line of a closing with the figures up to a place, and one more where the buffer is no longer filled from there on.
@@ -74,11 +48,11 @@ fn print_closing<W: Write>(output: &mut W, number: u8, report: &[u8], end: usize
 
 impl Trace {
     /// The empty ledger, and no plan.
-    fn new(alloc: Global) -> Self {
+    fn new() -> Self {
         let Step { ledger, .. } = Ledger::open(b"");
         Trace {
             ledger,
-            plan: Vec::new(alloc),
+            plan: ArrayVec::new(),
         }
     }
 
@@ -87,7 +61,7 @@ impl Trace {
     {
         let Step { ledger, answer } = Ledger::open(piece);
         self.ledger = ledger;
-        console::print_call(output, b"open", number(answer), b"")?;
+        console::print_call(output, b"open", reckoner::number(answer), b"")?;
         Ok(())
     }
 
@@ -96,8 +70,17 @@ impl Trace {
     {
         let Step { ledger, answer } = self.ledger.year(piece, &self.plan);
         self.ledger = ledger;
-        console::print_call(output, b"year", number(answer), b"")?;
+        console::print_call(output, b"year", reckoner::number(answer), b"")?;
         Ok(())
+    }
+
+    /// Keeps the bytes of a piece as the plan.
+    fn keep_plan(&mut self, piece: &[u8])
+        requires { length piece.now ≤ 65536 }
+        ensures { self.new.plan.items ≡ piece.now }
+    {
+        self.plan.clear();
+        let _fits = self.plan.try_extend_from_slice(piece);
     }
 
     #[tactic(auto, using(crate::proofs::Rulesets::reports))]
@@ -109,59 +92,74 @@ impl Trace {
         match answer {
             Err(refusal) => print_closing(output, refusal.number(), report, 0),
             Ok(()) => {
+                // `as`: at most 20 years to a place.
                 let end = (64 * ledger.years() + 32) as usize;
                 print_closing(output, 0, report, end)
             }
         }
     }
 
-    /// Makes a call with the bytes that it brings; those of a closing are the buffer that it is lent.
-    fn make<W: Write>(&mut self, output: &mut W, call: Call, mut bytes: Vec<u8>) -> io::Result<()>
-        ensures lent { call ≡ Call.Plan → self.new.plan ≡ bytes }
-        ensures kept { call ≢ Call.Plan → self.new.plan ≡ self.old.plan }
+    /// Makes a call.
+    fn make<W: Write>(&mut self, output: &mut W, call: Call) -> io::Result<()>
+        requires { Fits call }
+        ensures { self.new.plan.items ≡ plan_after call.entry self.old.plan.items }
     {
         match call {
-            Call::Open => self.open(output, &bytes),
-            Call::Year => self.year(output, &bytes),
-            Call::Close => self.close(output, &mut bytes),
-            Call::Plan => {
-                self.plan = bytes;
+            Call::Open(piece) => self.open(output, piece),
+            Call::Year(piece) => self.year(output, piece),
+            Call::Plan(piece) => {
+                self.keep_plan(piece);
                 Ok(())
             }
+            Call::Close(report) => self.close(output, report),
         }
     }
 }
 
-/// The next call of the list with its bytes, those of a closing a buffer full of the filling; or `None` where the list has ended.
-fn read_call<R: Read>(alloc: Global, input: &mut R) -> io::Result<Option<(Call, Vec<u8>)>> {
+/// The next call of the list, or `None` where the list has ended. Its bytes are read into the space that is lent; those of a closing
+/// are a buffer full of the filling.
+fn read_call<'a, R: Read>(
+    input: &mut R,
+    space: &'a mut [u8; 65_536],
+) -> io::Result<Option<Call<'a>>>
+    ensures { IfOk result (λ read. IfSome read Fits) }
+{
     let Some(mark) = console::read_byte(input)? else {
         return Ok(None);
     };
     let Some(length) = console::read_length(input)? else {
         return Ok(None);
     };
-    let Ok(call) = Call::try_from(mark) else {
+    if mark == b'C' {
+        let buffer = &mut space[..length];
+        buffer.fill(FILLING);
+        return Ok(Some(Call::Close(buffer)));
+    }
+    let Some(piece) = console::read_piece(input, &mut space[..length])? else {
         return Ok(None);
     };
-    let bytes = match call {
-        Call::Close => Some(vec![in alloc; FILLING; length]?),
-        _ => console::read_piece(alloc, input, length)?,
-    };
-    Ok(bytes.map(|bytes| (call, bytes)))
+    match mark {
+        b'O' => Ok(Some(Call::Open(piece))),
+        b'Y' => Ok(Some(Call::Year(piece))),
+        b'P' => Ok(Some(Call::Plan(piece))),
+        _ => Ok(None),
+    }
 }
 
 /// Makes the calls that the input lists.
-fn run<R: Read, W: Write>(alloc: Global, input: &mut R, output: &mut W) -> io::Result<()> {
-    let mut trace = Trace::new(alloc);
+fn run<R: Read, W: Write>(input: &mut R, output: &mut W) -> io::Result<()> {
+    let mut trace = Trace::new();
+    let mut space = console::filled_buffer();
+    // To the end of the input: a loop needs a bound, and no input has as many calls.
     for _ in 0..u64::MAX {
-        let Some((call, bytes)) = read_call(alloc, input)? else {
+        let Some(call) = read_call(input, &mut space)? else {
             break;
         };
-        trace.make(output, call, bytes)?;
+        trace.make(output, call)?;
     }
     Ok(())
 }
 
 fn main(rt: HostRuntime) -> io::Result<()> {
-    run(rt.alloc(), &mut rt.reader(), &mut io::writer(&rt))
+    run(&mut rt.reader(), &mut io::writer(&rt))
 }

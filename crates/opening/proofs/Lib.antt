@@ -1,2 +1,6 @@
 pub mod AmountLaws
 pub mod Reading
+pub mod HeadLaws
+pub mod StocksLaws
+pub mod MatrixLaws
+pub mod OpeningLaws

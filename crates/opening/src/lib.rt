@@ -1,7 +1,7 @@
 //! The opening of a dossier or of a ledger: HD, ST if it is filed, PA, DA and, under Option 2, MP.
 #![tactic(auto)]
 
-ghost use Rattle.std.specs.Prelude.{◌≡◌, ◌+◌, ◌≤◌, [], IfOk};
+ghost use Rattle.std.specs.Prelude.{◌≡◌, ◌+◌, ◌≤◌, [], pos, IfOk};
 ghost use Rattle.dossier.specs.JudgingRecords.{head, stocks, stocks_if_any, areas, matrix, matrix_under};
 ghost use Rattle.cursor.specs.Says.{says};
 ghost use Rattle.projection.specs.Projection.{area_total};
@@ -13,21 +13,11 @@ ghost use Rattle.opening.specs.Opened.{filed, filed_under, settled_of, settled_o
 
 use classes::{Matrix, Stocks};
 use cursor::Reader;
+use cursor::marks::{DA, HD, MP, PA, ST};
 use figures::{State, Terms};
 use projection::Region;
 use refusals::Refusal;
 use units::{AreaUnits, Grams};
-
-// The marks of the records.
-const HD: u16 = 0x4844;
-
-const ST: u16 = 0x5354;
-
-const PA: u16 = 0x5041;
-
-const DA: u16 = 0x4441;
-
-const MP: u16 = 0x4d50;
 
 // The greatest stock of a filed list, in hundredths of tC per ha.
 const GREATEST_STOCK: u64 = 50_000;
@@ -66,6 +56,9 @@ fn read_head(reader: &mut Reader) -> Result<Head, Refusal>
         years,
     })
 }
+
+// ST, PA with DA, and MP have a loop each: each tests something else, an entry, what is left or a row, and a loop that is handed its test would be no
+// plainer. One law serves all three (proofs/Reading).
 
 /// ST: twelve stocks, each tested as it is read; that of NF is 0.
 #[tactic(auto, unfolding(dossier::specs::JudgingRecords::stocks, dossier::specs::Reader::followed))]
@@ -108,6 +101,8 @@ struct Inception {
 }
 
 /// PA or DA: twelve areas whose total is from `least` to 10^12. Each is tested against what is left before it is added, so no sum wraps.
+// Inlined, for what a function hands back is cleared and copied once more (docs/PERFORMANCE.md).
+#[inline(always)]
 #[tactic(auto, unfolding(dossier::specs::JudgingRecords::areas, dossier::specs::Reader::followed))]
 fn read_areas(reader: &mut Reader, mark: u16, least: u64) -> Result<Inception, Refusal>
     ensures { says (λ inception. amounts inception.areas) result reader.new ≡ areas mark least reader.old }
@@ -138,7 +133,7 @@ fn read_matrix(reader: &mut Reader) -> Result<Matrix, Refusal>
         let mut sum = 0;
         for column in 0..12 {
             let probability = u64::from(reader.u32());
-            entries[12 * row + column] = probability;
+            entries[classes::place(row, column)] = probability;
             sum += probability;
         }
         if sum != ROW_SUM {
@@ -148,7 +143,9 @@ fn read_matrix(reader: &mut Reader) -> Result<Matrix, Refusal>
     Ok(Matrix { entries })
 }
 
-/// The matrix in use: that of MP under Option 2, otherwise Option 1's.
+/// The matrix in use: that of MP under Option 2, otherwise Option 1's. The option is a number, as in `Terms`.
+// Inlined, as `read_areas` is.
+#[inline(always)]
 #[tactic(auto, unfolding(dossier::specs::JudgingRecords::matrix_under, dossier::specs::Reader::if_any, dossier::specs::Reader::followed, dossier::specs::Reader::give))]
 fn read_matrix_under(reader: &mut Reader, option: u64) -> Result<Matrix, Refusal>
     ensures filed { says (filed_under option) result reader.new ≡ matrix_under option reader.old }
@@ -172,7 +169,9 @@ pub struct Opened {
 /// `HeadOutOfRange`, `StockOutOfRange`, `AreaTotalWrong` or `RowSumWrong`.
 #[tactic(auto, unfolding(crate::specs::Opened::settled_opening, dossier::specs::Judging::opening, dossier::specs::Records::settled, dossier::specs::Records::terms_of, dossier::specs::Records::state_of, dossier::specs::Reader::followed, dossier::specs::Reader::give), using(crate::proofs::AmountLaws::units_amounts))]
 pub fn read_opening(reader: &mut Reader) -> Result<Opened, Refusal>
-    ensures { says settled_of result reader.new ≡ settled_opening reader.old }
+    ensures value { says settled_of result reader.new ≡ settled_opening reader.old }
+    ensures few { IfOk result (λ opened. opened.state.left ≤ 20) }
+    ensures none_credited { IfOk result (λ opened. opened.state.total.0 ≡ pos 0) }
 {
     let head = read_head(reader)?;
     let stocks = read_stocks_if_any(reader)?;

@@ -186,7 +186,7 @@ module _ {flags : List Bool} {l : List Words} (p : Passed flags l) (x : Words) (
   flags_more y true f d g e = flag_stays flags (slot x) (slot y) (omega (arith, p.long)) (f refl)
   flags_more y false f d g e = rw (← g e) (get_or-set_same flags (slot x) true false (omega (arith, p.long)))
 
-  passed_more : is_among l x ≡ false → Passed (set flags (slot x) true) (l ++ (x ∷ []))
+  pub passed_more : is_among l x ≡ false → Passed (set flags (slot x) true) (l ++ (x ∷ []))
   passed_more n = record {
     long = length-set flags (slot x) true ∙ p.long;
     differ = equal-more l x ∙ rw (p.differ, n);

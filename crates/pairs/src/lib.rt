@@ -39,6 +39,7 @@ fn slot_of(key: Words) -> usize
     ensures value { result ≡ slot key }
     ensures bound { result < 1021 }
 {
+    // `as`: a number below 1,021 to a place, where `try_from` would bring a case that never comes.
     (key.low % FLAGS) as usize
 }
 
@@ -95,6 +96,7 @@ impl Keys {
         if low.len() < 2 {
             return false;
         }
+        // `as`: a constant to a length, where no conversion can be called.
         let mut flags = [false; FLAGS as usize];
         for k in 0..low.len() {
             let key = Words {

@@ -1,56 +1,38 @@
 -- Lists of period ends: the test of them turn by turn, and that it holds just of those in range.
 -- Assumes nothing.
-use Prim.Native.Nat.{ℕ, zero, suc, ◌+◌, ◌-◌, ◌≤◌, ◌<◌}
-use mathlib.Core.Path.{◌≡◌, refl, ◌∙◌, sym}
-use mathlib.Core.Bool.{Bool, true, false, cond}
-use mathlib.Core.Logic.{◌↔◌}
-use mathlib.Core.List.{List, [], ◌∷◌}
-use native.Mathlib.Numerals.{add-one}
-use native.Mathlib.Omega.{arith}
-use lib.Dec.{ltb, eqb}
-use lib.ListN.{length, drop, get_or}
-use lib.Seq.{drop-cons, drop-length}
-use borrow.Author.Tests.{lt-ltb, le-ltb, eq-eqb, ne_eqb, ltb-true, ltb-false, eqb-true, eqb-false}
+use Rattle.std.proofs.Common.{◌≡◌, ℕ, zero, suc, ◌+◌, ◌-◌, ◌≤◌, ◌<◌, true, false, eqb, ◌↔◌, List, [], ◌∷◌, length, drop, get_or, drop-cons, add-one, refl, ◌∙◌, sym, arith}
+use Rattle.std.proofs.lemmas.Bool.Decides.{nat_tests}
+use Rattle.std.proofs.Math.Seq.{drop-length}
 use Rattle.periods.specs.Periods.{Inside, EndsInRange, ends_from, ends_sound}
 
 -- ---- turn by turn
 -- a list that is not empty
 pub sound_some : (first n : ℕ) (ends : List ℕ) → (length ends ≡ 0 → ⊥) → ends_sound first n ends ≡ ends_from first (first + n) ends
 unfolding ends_sound
-sound_some first n [] h = absurd (h refl)
-sound_some first n (end ∷ ends) h = refl
+sound_some first n ends h = grind arith
 
 pub sound_none : (first n : ℕ) (ends : List ℕ) → length ends ≡ 0 → ends_sound first n ends ≡ true
 unfolding ends_sound
-sound_none first n [] h = refl
-sound_none first n (end ∷ ends) h = absurd (omega arith)
+sound_none first n ends h = grind arith
 
 -- the end at place i
 module _ (least beyond : ℕ) (ends : List ℕ) (i : ℕ) (h : i < length ends) where
   pub end_early : get_or ends i 0 < least → ends_from least beyond (drop i ends) ≡ false
   unfolding ends_from
-  end_early early = rw (drop-cons ends i 0 h, lt-ltb (get_or ends i 0) least early)
+  end_early early = rw (drop-cons ends i 0 h) (grind (arith, nat_tests))
 
   pub end_late : beyond ≤ get_or ends i 0 → ends_from least beyond (drop i ends) ≡ false
   unfolding ends_from
-  end_late late = rw (drop-cons ends i 0 h) (go (ltb (get_or ends i 0) least))
-    where
-      go : (b : Bool) → cond b false (cond (ltb (get_or ends i 0) beyond) (ends_from (get_or ends i 0 + 1) beyond (drop (suc i) ends)) false) ≡ false
-      go true = refl
-      go false = rw (le-ltb (get_or ends i 0) beyond late)
+  end_late late = rw (drop-cons ends i 0 h) (grind (arith, nat_tests))
 
   pub end-taken : least ≤ get_or ends i 0 → get_or ends i 0 < beyond → ends_from least beyond (drop i ends) ≡ ends_from (get_or ends i 0 + 1) beyond (drop (i + 1) ends)
   unfolding ends_from
-  end-taken later inside = rw (drop-cons ends i 0 h, le-ltb (get_or ends i 0) least later, lt-ltb (get_or ends i 0) beyond inside, add-one i)
+  end-taken later inside = rw (drop-cons ends i 0 h, add-one i) (grind (arith, nat_tests))
 
 -- after the last, as many years are passed as there are
 pub end-last : (least first n : ℕ) (ends : List ℕ) (i : ℕ) → i ≡ length ends → first ≤ least → ends_from least (first + n) (drop i ends) ≡ eqb (least - first) n
 unfolding ends_from
-end-last least first n ends i e later = rw (e, drop-length ends) (go (eqb (least - first) n) refl)
-  where
-    go : (b : Bool) → eqb (least - first) n ≡ b → eqb least (first + n) ≡ b
-    go true f = eq-eqb least (first + n) (omega (arith, eqb-true (least - first) n f))
-    go false f = ne_eqb least (first + n) (λ z. eqb-false (least - first) n f (omega arith))
+end-last least first n ends i e later = rw (e, drop-length ends) (grind (arith, nat_tests))
 
 -- ---- what the test says of the years
 -- each end at least the least year, below the one beyond the last, and later than the one before it
@@ -60,29 +42,23 @@ From least beyond (end ∷ ends) = (least ≤ end) × (end < beyond) × From (en
 
 from_test : (least beyond : ℕ) (ends : List ℕ) → ends_from least beyond ends ≡ true → From least beyond ends
 unfolding ends_from
-from_test least beyond [] e = eqb-true least beyond e
-from_test least beyond (end ∷ ends) e = go (from_test (end + 1) beyond ends) (ltb end least) refl (ltb end beyond) refl e
-  where
-    go : (ends_from (end + 1) beyond ends ≡ true → From (end + 1) beyond ends) → (early : Bool) → ltb end least ≡ early → (inside : Bool) → ltb end beyond ≡ inside
-        → cond early false (cond inside (ends_from (end + 1) beyond ends) false) ≡ true → From least beyond (end ∷ ends)
-    go rest true f inside g e = let z : ◌≡◌ {A = ℕ} 0 1 = cc in absurd (omega arith)
-    go rest false f true g e = (ltb-false end least f, ltb-true end beyond g, rest e)
-    go rest false f false g e = let z : ◌≡◌ {A = ℕ} 0 1 = cc in absurd (omega arith)
+from_test least beyond [] e = grind (arith, nat_tests)
+from_test least beyond (end ∷ ends) e = grind (arith, nat_tests, from_test (end + 1) beyond ends)
 
 test_from : (least beyond : ℕ) (ends : List ℕ) → From least beyond ends → ends_from least beyond ends ≡ true
 unfolding ends_from
-test_from least beyond [] h = eq-eqb least beyond h
-test_from least beyond (end ∷ ends) (later, inside, h) = rw (le-ltb end least later, lt-ltb end beyond inside) (test_from (end + 1) beyond ends h)
+test_from least beyond [] h = grind (arith, nat_tests)
+test_from least beyond (end ∷ ends) h = grind (arith, nat_tests, test_from (end + 1) beyond ends h.2)
 
 -- so there are no more ends than years
 from_count : (least beyond : ℕ) (ends : List ℕ) → From least beyond ends → least + length ends ≤ beyond
 from_count least beyond [] h = omega arith
-from_count least beyond (end ∷ ends) (later, inside, h) = omega (arith, from_count (end + 1) beyond ends h)
+from_count least beyond (end ∷ ends) h = omega (arith, from_count (end + 1) beyond ends h.2)
 
 from_inside : (least beyond : ℕ) (ends : List ℕ) → From least beyond ends → (i : ℕ) → i < length ends → (least ≤ get_or ends i 0) × (get_or ends i 0 < beyond)
 from_inside least beyond [] h i q = absurd (omega arith)
 from_inside least beyond (end ∷ ends) (later, inside, h) zero q = (later, inside)
-from_inside least beyond (end ∷ ends) (later, inside, h) (suc i) q = let (above, below) = from_inside (end + 1) beyond ends h i (omega arith) in (omega arith, below)
+from_inside least beyond (end ∷ ends) (later, inside, h) (suc i) q = grind (arith, from_inside (end + 1) beyond ends h i)
 
 from_rising : (least beyond : ℕ) (ends : List ℕ) → From least beyond ends → (i : ℕ) → suc i < length ends → get_or ends i 0 < get_or ends (suc i) 0
 from_rising least beyond [] h i q = absurd (omega arith)

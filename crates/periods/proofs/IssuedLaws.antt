@@ -4,6 +4,7 @@ use Rattle.std.proofs.Common.{◌≡◌, ℕ, suc, ◌+◌, ◌-◌, ◌*◌, �
 use Rattle.std.proofs.Math.Seq.{take-add}
 use Rattle.std.proofs.lemmas.List.{drop-drop, length-map, length-take-le}
 use Rattle.std.proofs.lemmas.List.Edits.{sets}
+use Rattle.std.specs.Int.Signed.{mag}
 use mir.Syntax.{w64}
 use mir.Val.{to_z}
 use mir.Facts.{to_z_pos}
@@ -12,6 +13,7 @@ use Rattle.arithmetic.proofs.IntegerLaws.{positive_difference}
 use Rattle.wire.specs.Signed.{figure_bytes, figures_bytes}
 use Rattle.wire.proofs.SignedLaws.{stored_one}
 use Rattle.figures.specs.Figures.{tonnes_of}
+use Rattle.figures.proofs.FiguresLaws.{tonnes-le}
 use Rattle.periods.specs.Periods.{issued_now, issued_after, totals_at, issued_tonnes}
 
 -- at one end
@@ -32,6 +34,12 @@ pub none-stored : (first : ℕ) (credited : ℕ → ℤ) (ends s : List ℕ) (at
 unfolding issued_after figures_bytes
 none-stored first credited [] s at e = refl
 none-stored first credited (end ∷ ends) s at e = absurd (omega arith)
+
+-- all that are issued stay within 63 bits, as the running totals do
+pub issued_fits : (before now : ℕ) (total : ℤ) → pos now ≡ issued_now (pos before) total → mag total < 2 ^ 63 → before < 2 ^ 63 → before + now < 2 ^ 63
+issued_fits before now total e small few =
+    let is : now ≡ tonnes_of total - before = ap mag (e ∙ issued_now_lem before (tonnes_of total) total refl) in
+    omega (arith, is, tonnes-le total)
 
 -- a turn: the number for the end at place i follows those that are done, and the others are issued after it
 pub issued_turn : (total : ℕ → ℤ) (ends : List ℕ) (i before now : ℕ) (all : List ℤ) → i < length ends

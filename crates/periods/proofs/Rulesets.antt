@@ -2,14 +2,15 @@
 -- Assumes nothing.
 use Rattle.figures.proofs.FiguresLaws.{tonnes-le}
 use Rattle.periods.proofs.EndsLaws.{sound_none, sound_some, end_early, end_late, end-taken, end-last, sound-inside}
+use Rattle.arithmetic.proofs.IntegerSums.{int_sum-none}
 use Rattle.periods.proofs.RunningLaws.{next_fits}
 use Rattle.periods.proofs.IssuedLaws.{issued_now_lem, none-stored}
 
 -- the test of the ends, turn by turn
 pub ruleset ends = (sound_none, sound_some, end_early, end_late, end-taken, end-last)
 
--- that one year more fits
-pub ruleset totals = (next_fits)
+-- that no year comes to nothing, and one more fits
+pub ruleset totals = (next_fits, int_sum-none)
 
 -- the tonnes at one end
 pub ruleset issues = (issued_now_lem, tonnes-le)

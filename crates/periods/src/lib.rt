@@ -6,7 +6,7 @@ ghost use Rattle.std.specs.Int.Signed.{mag};
 ghost use Rattle.std.proofs.lemmas.List.Edits.{sets};
 ghost use Rattle.wire.specs.Signed.{figures_bytes};
 ghost use Rattle.periods.specs.Periods.{ends_sound, credited_in, issued_now, issued_tonnes};
-ghost use Rattle.periods.specs.Ranges.{Kept, Small};
+ghost use Rattle.periods.specs.Ranges.{SmallYears, Kept, Small};
 
 use figures::Figures;
 use units::Grams;
@@ -34,7 +34,7 @@ pub fn sound(ends: &[u16], first: u64, years: u64) -> bool
 /// The running credited totals in grams, kept for all the years: at each number of years that of so many from the first on.
 #[tactic(auto, using(crate::proofs::Rulesets::totals))]
 fn running_totals(figures: &[Figures]) -> [Grams; 21]
-    requires few { length figures.now ≤ 20 }
+    requires { SmallYears (length figures.now) figures.now }
     ensures kept { Kept (length figures.now) figures.now result }
     ensures small { Small (length figures.now) result }
 {
@@ -58,7 +58,7 @@ fn issued_now(total: Grams, before: u64) -> u64
 /// With no list no running totals are kept.
 #[tactic(auto, using(crate::proofs::Rulesets::years), unfolding(wire::specs::Signed::figures_bytes))]
 pub fn write_issued(figures: &[Figures], first: u64, ends: &[u16], buffer: &mut [u8], at: usize)
-    requires few { length figures.now ≤ 20 }
+    requires small_years { SmallYears (length figures.now) figures.now }
     requires sound_ends { ends_sound first (length figures.now) ends.now ≡ true }
     requires room { at + 8 * length ends.now ≤ length buffer.old }
     ensures { buffer.new ≡ sets buffer.old at (figures_bytes (issued_tonnes first (credited_in figures.now) ends.now)) }
@@ -70,6 +70,7 @@ pub fn write_issued(figures: &[Figures], first: u64, ends: &[u16], buffer: &mut 
     let mut before = 0;
     for (i, &end) in ends.iter().enumerate() {
         let years = u64::from(end) + 1 - first;
+        // `as`, here and below: a number of years to a place, and tonnes that are proved to fit.
         let total = totals[years as usize];
         let tonnes = issued_now(total, before);
         wire::put_figure(buffer, at + 8 * i, tonnes as i64);

@@ -26,17 +26,17 @@ module _ (s : List ℕ) (grams : Grams) (rest : List ℕ) (e : accepted grams re
   records_summed = let m = made-yes (activities [] s) _ grams rest e in rw (← m.judged) m.made
 
 -- ---- where a plan has the year
-module _ (records : Chosen (List Activity)) (bytes : Bor (List ℕ)) where
-  pub records_found : Finds records (Some bytes) → records ≡ some (records_at bytes.now)
+module _ (records : Chosen (List Activity)) (plan : List ℕ) (bytes : Bor (List ℕ)) where
+  pub records_found : Finds records plan (Some bytes) → records ≡ some (records_at bytes.now)
   records_found h = go records h
     where
-      go : (records : Chosen (List Activity)) → Finds records (Some bytes) → records ≡ some (records_at bytes.now)
+      go : (records : Chosen (List Activity)) → Finds records plan (Some bytes) → records ≡ some (records_at bytes.now)
       go none h = absurd h
-      go (some l) h = rw h.judged refl
+      go (some l) h = rw h.holds.judged refl
 
-  pub found-hold : Finds records (Some bytes) → Holds (records_at bytes.now) bytes.now
+  pub found-hold : Finds records plan (Some bytes) → Holds (records_at bytes.now) bytes.now
   found-hold h = go records h
     where
-      go : (records : Chosen (List Activity)) → Finds records (Some bytes) → Holds (records_at bytes.now) bytes.now
+      go : (records : Chosen (List Activity)) → Finds records plan (Some bytes) → Holds (records_at bytes.now) bytes.now
       go none h = absurd h
-      go (some l) h = record { rest = h.rest; judged = rw h.judged refl }
+      go (some l) h = record { rest = h.holds.rest; judged = rw h.holds.judged refl }

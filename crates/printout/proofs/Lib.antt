@@ -1,3 +1,4 @@
+pub mod AnswerLaws
 pub mod PrintoutLaws
 pub mod LongInputs
 pub mod Rulesets

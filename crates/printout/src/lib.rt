@@ -15,6 +15,7 @@ fn ledger_sheet(ledger: Ledger) -> Text
 {
     let mut report = [0u8; 1312];
     ledger.close(&mut report);
+    // `as`: a ledger that the calls handed back has a first year of 16 bits.
     sheet::sheet_of(ledger.first_year() as u16, ledger.years(), &report)
 }
 

@@ -41,6 +41,10 @@ first_areas areas (suc n) h = rw (← add-one) (sum_by_more (λ (a : AreaUnits).
 pub total_by_class : (areas : List AreaUnits) → length areas ≡ 12 → total_area areas ≡ area_total areas
 total_by_class areas twelve = rw (take_all 12 areas (omega arith)) at (first_areas areas 12 (omega arith))
 
+-- the next partial sum is at most the whole
+pub area_step : (areas : List AreaUnits) (i : ℕ) → i < 12 → sum i (area areas) + area areas i ≤ area_total areas
+area_step areas i h = omega (arith, sum-next i (area areas), sum_part (i + 1) 12 (area areas) (omega arith))
+
 -- the carbon of all flows, column by column
 pub carbon_columns : (factor : ℕ → ℕ → ℕ) (areas : List AreaUnits) (matrix : List ℕ) → sum classes (inflow_carbon factor areas matrix) ≡ projected_carbon factor areas matrix
 unfolding inflow_carbon projected_carbon

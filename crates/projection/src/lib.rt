@@ -8,7 +8,7 @@ ghost use Rattle.projection.specs.Projection.{area_total, next_area, next_areas,
 ghost use Rattle.projection.specs.Ranges.{SmallArea};
 ghost use Rattle.projection.specs.Inflow.{inflow_carbon, projected_year};
 
-use classes::{Factors, Matrix};
+use classes::{Factors, Matrix, place};
 use std::marker::Model;
 use units::{AreaUnits, CarbonUnits};
 
@@ -40,13 +40,6 @@ pub struct Projected {
     pub carbon: CarbonUnits,
 }
 
-/// What flows into one class, and the carbon that it sets free.
-#[derive(Drop)]
-struct Inflow {
-    area: AreaUnits,
-    carbon: CarbonUnits,
-}
-
 /// What flows into each class, and the carbon that all of it sets free.
 #[derive(Drop)]
 struct Inflows {
@@ -61,55 +54,6 @@ fn flow(area: AreaUnits, probability: u64) -> AreaUnits
     ensures { result.0 ≡ area.0 * probability / million }
 {
     AreaUnits(area.0 * probability / 1_000_000)
-}
-
-/// The flows into a class, and their carbon.
-#[tactic(auto, using(crate::proofs::ProjectionLaws::class_turns), unfolding(crate::specs::Inflow::inflow_carbon, crate::specs::Projection::next_area))]
-fn flows_into(
-    areas: &[AreaUnits; 12],
-    matrix: &[u64; 144],
-    factors: &[u64; 144],
-    class: usize,
-) -> Inflow
-    requires small_area { SmallArea (area_total areas.now) }
-    requires rows_within { RowsWithin matrix.now }
-    requires factors_fit { FactorsFit factors.now }
-    requires class { class < 12 }
-    ensures area { result.area.0 ≡ next_area areas.now matrix.now class }
-    ensures carbon { result.carbon.0 ≡ inflow_carbon (entry factors.now) areas.now matrix.now class }
-{
-    let mut area = AreaUnits(0);
-    let mut carbon = CarbonUnits(0);
-    for from in 0..12 {
-        let flowing = flow(areas[from], matrix[12 * from + class]);
-        area += flowing;
-        carbon += flowing * factors[12 * from + class];
-    }
-    Inflow { area, carbon }
-}
-
-/// The flows into every class, and their carbon.
-#[tactic(auto, using(crate::proofs::ProjectionLaws::class_turns))]
-fn year_flows(areas: &[AreaUnits; 12], matrix: &Matrix, factors: &Factors) -> Inflows
-    requires { SmallArea (area_total areas.now) }
-    ensures areas { result.areas ≡ next_areas areas.now matrix.now }
-    ensures carbon { result.carbon.0 ≡ projected_carbon (entry factors.now) areas.now matrix.now }
-    ensures small { result.carbon.0 ≤ greatest_carbon }
-    ensures kept { area_total result.areas + lost_area areas.now matrix.now ≡ area_total areas.now }
-{
-    let probabilities = &matrix.entries;
-    let factors = &factors.entries;
-    let mut next = [AreaUnits(0); 12];
-    let mut carbon = CarbonUnits(0);
-    for class in 0..12 {
-        let inflow = flows_into(areas, probabilities, factors, class);
-        next[class] = inflow.area;
-        carbon += inflow.carbon;
-    }
-    Inflows {
-        areas: next,
-        carbon,
-    }
 }
 
 /// The total of twelve areas.
@@ -142,13 +86,36 @@ impl Region {
         }
     }
 
+    /// The flows into every class, and their carbon.
+    #[tactic(auto, using(crate::proofs::ProjectionLaws::class_turns), unfolding(crate::specs::Inflow::inflow_carbon, crate::specs::Projection::next_area))]
+    fn flows(&self, matrix: &Matrix, factors: &Factors) -> Inflows
+        ensures areas { result.areas ≡ next_areas self.now.areas matrix.now }
+        ensures carbon { result.carbon.0 ≡ projected_carbon (entry factors.now) self.now.areas matrix.now }
+        ensures small { result.carbon.0 ≤ greatest_carbon }
+        ensures kept { area_total result.areas + lost_area self.now.areas matrix.now ≡ area_total self.now.areas }
+    {
+        let mut areas = [AreaUnits(0); 12];
+        let mut carbon = CarbonUnits(0);
+        for class in 0..12 {
+            let mut area = AreaUnits(0);
+            for from in 0..12 {
+                let pair = place(from, class);
+                let flowing = flow(self.areas[from], matrix.entries[pair]);
+                area += flowing;
+                carbon += flowing * factors.entries[pair];
+            }
+            areas[class] = area;
+        }
+        Inflows { areas, carbon }
+    }
+
     /// A year of this region by a matrix and a table of emission factors.
     #[tactic(auto, unfolding(crate::specs::Inflow::projected_year, crate::specs::Projection::projected_region))]
     pub fn projected(&self, matrix: &Matrix, factors: &Factors) -> Projected
         ensures value { result ≡ projected_year (entry factors.now) matrix.now self.now }
         ensures small { result.carbon.0 ≤ greatest_carbon }
     {
-        let Inflows { areas, carbon } = year_flows(&self.areas, matrix, factors);
+        let Inflows { areas, carbon } = self.flows(matrix, factors);
         let lost = area_total(&self.areas) - area_total(&areas);
         Projected {
             region: Region {

@@ -1,13 +1,7 @@
 -- A list of calls: the ledger after it is the first one given its accepted years, and so after the calls that stand.
 -- Assumes nothing.
-use Prim.Native.Nat.{ℕ, zero, suc}
-use mathlib.Core.Path.{◌≡◌, refl, ◌∙◌, ap}
-use mathlib.Core.Logic.{◌↔◌}
+use Rattle.std.proofs.Common.{◌≡◌, ℕ, zero, suc, ◌<◌, ◌↔◌, List, [], ◌∷◌, length, take, refl, ap, arith}
 use mathlib.Core.Option.{Option}
-use mathlib.Core.List.{List, [], ◌∷◌}
-use native.Mathlib.Omega.{arith}
-use lib.ListN.{length, take}
-use borrow.Author.Tests.{ne_eqb}
 use Rattle.figures.specs.Year.{Year}
 use Rattle.dossier.specs.Causes.{plan_not_of_form, year_causes}
 use Rattle.wire.specs.Bytes.{Bytes}
@@ -21,9 +15,9 @@ use Rattle.dossier.proofs.CauseLaws.{positive}
 use Rattle.dossier.proofs.UnderLaws.{under-either, year_piece-under-causes}
 use Rattle.dossier.proofs.WellFormed.{year-accepted}
 use Rattle.reckoner.specs.Ledger.{Ledger, due_of, given_year, given_years}
-use Rattle.reckoner.specs.Calls.{answer_number, year_judged, year_call, close_call, HandedBack, given}
+use Rattle.reckoner.specs.Calls.{answer_number, year_call, close_call, HandedBack, given}
 use Rattle.reckoner.proofs.Invariant.{LedgerKept, due-kept, given-kept, YearsTaken}
-use Rattle.promises.specs.CallList.{Call, giving, closing, called, after_call, after_calls, LentBytes, judged_year, brought_year, accepted_years, standing_call, standing_calls}
+use Rattle.promises.specs.CallList.{Call, giving, closing, called, after_call, after_calls, LentBytes, brought_year, accepted_years, standing_call, standing_calls}
 
 -- every ledger of the list is one that these calls handed back
 pub calls-handed : (calls : List Call) (l : Ledger) → LentBytes calls → HandedBack l → HandedBack (after_calls calls l)
@@ -36,14 +30,14 @@ calls-handed (closing buffer ∷ calls) l b h = calls-handed calls l b h
 abbrev pub judged_as : (piece plan : List ℕ) → Ledger → Judged Year
 judged_as piece plan l = under plan (λ p. year_piece (due_of p l)) piece
 
+-- no refusal has the number 0
+never-zero : (piece plan : List ℕ) (l : Ledger) (n : ℕ) → judged_as piece plan l ≡ refused n → 0 < n
+never-zero piece plan l n e = positive (plan_not_of_form ∷ year_causes) tt n (year_piece-under-causes (λ p. due_of p l) plan piece n e)
+
 -- a year is brought exactly where its call answers 0
 pub brought_when : (l : Ledger) (piece plan : List ℕ) → (answer_number (called (giving piece plan) l).answer ≡ 0) ↔ (length (brought_year (giving piece plan) l) ≡ 1)
 unfolding called year_call brought_year
-brought_when l piece plan = go (judged_as piece plan l) refl
-  where
-    go : (j : Judged Year) → judged_as piece plan l ≡ j → (answer_number (year_judged l j).answer ≡ 0) ↔ (length (judged_year j) ≡ 1)
-    go (refused n) e = let c = positive (plan_not_of_form ∷ year_causes) tt n (year_piece-under-causes (λ p. due_of p l) plan piece n e) in ((λ z. absurd (omega arith)), λ z. absurd (omega arith))
-    go (accepted y rest) e = ((λ z. refl), λ z. refl)
+brought_when l piece plan = grind (arith, never-zero piece plan l)
 
 -- ---- by the verdict on a call
 -- what a call does, by the verdict on it: a year that is brought is given and stands; otherwise the ledger stays and nothing stands
@@ -60,22 +54,7 @@ pub record Taken (piece plan : List ℕ) (l : Ledger) (y : Year) : Type 0 where
 
 pub taken : (piece plan : List ℕ) (l : Ledger) (y : Year) (rest : List ℕ) → judged_as piece plan l ≡ accepted y rest → Taken piece plan l y
 unfolding brought_year after_call called year_call
-taken piece plan l y rest e = record {
-  brought = ap judged_year e;
-  after = ap (λ (j : Judged Year). (year_judged l j).ledger) e;
-  stand = ap (λ (j : Judged Year). standing_call (giving piece plan) (year_judged l j).answer) e;
-}
-
-giving_verdict : (piece plan : List ℕ) (l : Ledger) (j : Judged Year) → judged_as piece plan l ≡ j
-    → ((y : Year) (rest : List ℕ) → j ≡ accepted y rest → (p : Option Plan) × PlanLent p × YearInRange (due_of p l) y) → Verdict (giving piece plan) l
-unfolding brought_year after_call called year_call
-giving_verdict piece plan l (refused n) e h =
-    let c = positive (plan_not_of_form ∷ year_causes) tt n (year_piece-under-causes (λ p. due_of p l) plan piece n e) in
-    let stand = ap (λ (j : Judged Year). standing_call (giving piece plan) (year_judged l j).answer) e in
-    nothing (ap judged_year e) (ap (λ (j : Judged Year). (year_judged l j).ledger) e) (stand ∙ rw (ne_eqb n 0 (λ z. omega arith)))
-giving_verdict piece plan l (accepted y rest) e h =
-    let t = taken piece plan l y rest e in
-    brings y (h y rest refl) t.brought t.after t.stand
+taken piece plan l y rest e = grind arith
 
 -- an accepted year is in range, under the plan that its call was lent
 in_range_lem : (piece plan : List ℕ) (l : Ledger) → LedgerKept l → Bytes piece → Bytes plan → (y : Year) (rest : List ℕ) → judged_as piece plan l ≡ accepted y rest
@@ -85,35 +64,41 @@ in_range_lem piece plan l k b bp =
     (λ n y rest e. no _ _ _ e)
     (λ p lent a u f y rest e. let w = (year-accepted (due_of p l) (due-kept p lent l k)).sound piece b a u f in (p, lent, rw (was e).0 at w.0))
 
+giving_verdict : (piece plan : List ℕ) (l : Ledger) → LedgerKept l → Bytes piece → Bytes plan → (j : Judged Year) → judged_as piece plan l ≡ j → Verdict (giving piece plan) l
+unfolding brought_year after_call called year_call
+giving_verdict piece plan l k b bp (refused n) e = let some = never-zero piece plan l n e in nothing (grind arith) (grind arith) (grind arith)
+giving_verdict piece plan l k b bp (accepted y rest) e =
+    let t = taken piece plan l y rest e in
+    brings y (in_range_lem piece plan l k b bp y rest e) t.brought t.after t.stand
+
 pub verdict : (c : Call) (calls : List Call) (l : Ledger) → LedgerKept l → LentBytes (c ∷ calls) → Verdict c l
-verdict (giving piece plan) calls l k b = giving_verdict piece plan l (judged_as piece plan l) refl (in_range_lem piece plan l k b.0.0 b.0.1)
+verdict (giving piece plan) calls l k b = giving_verdict piece plan l k b.0.0 b.0.1 (judged_as piece plan l) refl
 verdict (closing buffer) calls l k b = unfold brought_year after_call called close_call in nothing refl refl refl
 
 pub lent-rest : (c : Call) (calls : List Call) → LentBytes (c ∷ calls) → LentBytes calls
 lent-rest (giving piece plan) calls b = b.1
 lent-rest (closing buffer) calls b = b
 
--- ---- the list: its accepted years are in range one after the other, and the ledger after it is given them
+-- ---- the list: its accepted years are in range one after the other, the ledger after it is given them, and as many calls stand
 pub record Gives (calls : List Call) (l : Ledger) : Type 0 where
   pub in_range : YearsTaken l (accepted_years calls l)
   pub ledger : after_calls calls l ≡ given_years (accepted_years calls l) l
+  pub number : length (standing_calls calls l) ≡ length (accepted_years calls l)
 
 year-taken : (l : Ledger) → LedgerKept l → (y : Year) → (p : Option Plan) × PlanLent p × YearInRange (due_of p l) y → LedgerKept (given_year y l)
 year-taken l k y (p, lent, h) = given-kept p lent l k y h
 
 gives_one : (c : Call) (calls : List Call) (l : Ledger) → LedgerKept l → Verdict c l → ((m : Ledger) → LedgerKept m → Gives calls m) → Gives (c ∷ calls) l
-unfolding accepted_years after_calls
+unfolding accepted_years after_calls standing_calls given_years
 gives_one c calls l k (nothing e f g) ih =
     let i = ih l k in
-    let a : accepted_years (c ∷ calls) l ≡ accepted_years calls l = rw (e, f) in
-    record { in_range = rw a i.in_range; ledger = rw (a, f) i.ledger }
+    record { in_range = rw (e, f) i.in_range; ledger = rw (e, f) i.ledger; number = rw (g, e, f) i.number }
 gives_one c calls l k (brings y h e f g) ih =
     let i = ih (given_year y l) (year-taken l k y h) in
-    let a : accepted_years (c ∷ calls) l ≡ y ∷ accepted_years calls (given_year y l) = rw (e, f) in
-    record { in_range = rw a (h, i.in_range); ledger = rw (a, f) (unfold given_years in i.ledger) }
+    record { in_range = rw (e, f) (h, i.in_range); ledger = rw (e, f) i.ledger; number = rw (g, e, f) (ap suc i.number) }
 
 pub gives : (calls : List Call) (l : Ledger) → LedgerKept l → LentBytes calls → Gives calls l
-gives [] l k b = unfold accepted_years after_calls given_years in record { in_range = tt; ledger = refl }
+gives [] l k b = unfold accepted_years after_calls standing_calls given_years in record { in_range = tt; ledger = refl; number = refl }
 gives (c ∷ calls) l k b = gives_one c calls l k (verdict c calls l k b) (λ m n. gives calls m n (lent-rest c calls b))
 
 -- ---- the first y calls that stand bring the first y years
@@ -128,19 +113,13 @@ lent_one (closing buffer) rest more b m = m
 stands_one : (c : Call) (calls : List Call) (l : Ledger) → LedgerKept l → LentBytes (c ∷ calls) → Verdict c l
     → ((m : Ledger) → LedgerKept m → (y : ℕ) → Stands calls m y) → (y : ℕ) → Stands (c ∷ calls) l y
 unfolding standing_calls accepted_years
-stands_one c calls l k b (nothing e f g) ih y =
-    let i = ih l k y in
-    let s : standing_calls (c ∷ calls) l ≡ standing_calls calls l = rw (g, f) in
-    let a : accepted_years (c ∷ calls) l ≡ accepted_years calls l = rw (e, f) in
-    record { lent = rw s i.lent; years = rw (s, a) i.years }
+stands_one c calls l k b (nothing e f g) ih y = let i = ih l k y in record { lent = rw (g, f) i.lent; years = rw (g, e, f) i.years }
 stands_one c calls l k b (brings x h e f g) ih zero = record { lent = tt; years = refl }
 stands_one c calls l k b (brings x h e f g) ih (suc y) =
     let i = ih (given_year x l) (year-taken l k x h) y in
-    let s : standing_calls (c ∷ calls) l ≡ c ∷ standing_calls calls (given_year x l) = rw (g, f) in
-    let a : accepted_years (c ∷ calls) l ≡ x ∷ accepted_years calls (given_year x l) = rw (e, f) in
     record {
-      lent = rw s (lent_one c calls (take y (standing_calls calls (given_year x l))) b i.lent);
-      years = rw (s, a) (rw (e, f) (ap (λ (ys : List Year). x ∷ ys) i.years));
+      lent = rw (g, f) (lent_one c calls (take y (standing_calls calls (given_year x l))) b i.lent);
+      years = rw (g, e, f) (ap (λ (ys : List Year). x ∷ ys) i.years);
     }
 
 pub stands : (calls : List Call) (l : Ledger) → LedgerKept l → LentBytes calls → (y : ℕ) → Stands calls l y
@@ -148,6 +127,7 @@ stands [] l k b zero = unfold standing_calls accepted_years in record { lent = t
 stands [] l k b (suc y) = unfold standing_calls accepted_years in record { lent = tt; years = refl }
 stands (c ∷ calls) l k b y = stands_one c calls l k b (verdict c calls l k b) (λ m n z. stands calls m n (lent-rest c calls b) z) y
 
+-- as many calls stand as years are accepted
 count_one : (c : Call) (calls : List Call) (l : Ledger) → LedgerKept l → Verdict c l → ((m : Ledger) → LedgerKept m → length (standing_calls calls m) ≡ length (accepted_years calls m))
     → length (standing_calls (c ∷ calls) l) ≡ length (accepted_years (c ∷ calls) l)
 unfolding standing_calls accepted_years

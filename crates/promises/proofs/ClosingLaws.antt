@@ -1,14 +1,10 @@
 -- The bytes that closing writes, read back.
 -- Assumes nothing.
-use Prim.Native.Nat.{ℕ, zero, suc, ◌+◌, ◌-◌, ◌*◌, ◌^◌, ◌≤◌, ◌<◌}
-use mathlib.Core.Path.{◌≡◌, refl, ◌∙◌, ap, sym, subst}
-use mathlib.Core.Bool.{true}
-use mathlib.Core.List.{List, [], ◌∷◌, ◌++◌, append_assoc}
-use native.Mathlib.Omega.{arith}
-use lib.IntN.{ℤ, pos}
-use lib.Signed.{mag}
-use lib.ListN.{length, take, drop, get_or, length-append, get_or-append}
-use lib.Seq.{length-take-le, split_at, take_at, get_or-take, get_or-append-add}
+use Rattle.std.proofs.Common.{◌≡◌, ℕ, zero, suc, ◌+◌, ◌-◌, ◌*◌, ◌^◌, ◌≤◌, ◌<◌, true, List, [], ◌∷◌, ◌++◌, All, ℤ, pos, ◌+ℤ◌, length, take, drop, get_or, append_assoc, length-append, length-take-le, take_at, get_or-take, get_or-append-add, refl, ◌∙◌, ap, sym, subst, arith}
+use Rattle.std.specs.Int.Signed.{mag}
+use Rattle.std.proofs.Math.Seq.{split_at}
+use Rattle.std.proofs.Math.ListN.{get_or-append}
+use Rattle.std.proofs.lemmas.List.Elements.{All-nil, All-cons, All-head, All-tail, All-append, All-map, All-get_or, All-from_get_or}
 use Rattle.figures.specs.declared.Figures.{Figures}
 use Rattle.figures.specs.Figures.{tonnes_of, no_figures}
 use Rattle.figures.specs.Ranges.{FiguresSmall}
@@ -17,7 +13,7 @@ use Rattle.wire.specs.Signed.{figures_bytes, written, figure_at}
 use Rattle.wire.proofs.SignedLaws.{length-figures, figures-append, written-figure}
 use Rattle.report.specs.Report.{eight, eights, closing, reported}
 use Rattle.report.proofs.ReportLaws.{length-years}
-use Rattle.periods.specs.Periods.{Inside, credited_in, issued_after, totals_at, issued_tonnes}
+use Rattle.periods.specs.Periods.{Inside, running_total, credited_in, issued_after, totals_at, issued_tonnes}
 use Rattle.periods.specs.Ranges.{SmallYears}
 use Rattle.periods.proofs.EndsLaws.{sound-inside}
 use Rattle.periods.proofs.RunningLaws.{running_fits}
@@ -28,39 +24,27 @@ use Rattle.reckoner.proofs.Invariant.{LedgerKept}
 use Rattle.reckoner.proofs.CloseLaws.{sound, years-small, report-count, buffer_is}
 
 -- ---- every number of the report fits its eight bytes
+abbrev Fits : ℤ → Type 0
+Fits z = mag z < 2 ^ 63
+
 abbrev Fit : List ℤ → Type 0
-Fit [] = Unit {0}
-Fit (z ∷ zs) = (mag z < 2 ^ 63) × Fit zs
-
-fit_append : (xs ys : List ℤ) → Fit xs → Fit ys → Fit (xs ++ ys)
-fit_append [] ys h k = k
-fit_append (x ∷ xs) ys h k = (h.0, fit_append xs ys h.1 k)
-
-fit_at : (zs : List ℤ) → Fit zs → (i : ℕ) → i < length zs → mag (get_or zs i (pos 0)) < 2 ^ 63
-fit_at [] h i l = absurd (omega arith)
-fit_at (z ∷ zs) h zero l = h.0
-fit_at (z ∷ zs) h (suc i) l = fit_at zs h.1 i (omega arith)
-
-fit_four : (a b c d : ℤ) → mag a < 2 ^ 63 → mag b < 2 ^ 63 → mag c < 2 ^ 63 → mag d < 2 ^ 63 → Fit (a ∷ b ∷ c ∷ d ∷ [])
-fit_four a b c d p q r s = (p, (q, (r, (s, tt))))
+Fit zs = All Fits zs
 
 fit-eight : (f : Figures) → FiguresSmall f → Fit (eight f)
-fit-eight f s =
-    let first = fit_four f.reference.0 f.project.0 f.activity.0 f.belt.0
-    (omega (arith, s.reference)) (omega (arith, s.project)) (omega (arith, s.activity)) (omega (arith, s.belt)) in
-    let second = fit_four f.belt_reference.0 f.displaced.0 f.reduction.0 f.credited.0
-    (omega (arith, s.belt-reference)) (omega (arith, s.displaced)) (omega (arith, s.reduction)) (omega (arith, s.credited)) in
-    fit_append (take 4 (eight f)) (drop 4 (eight f)) first second
+fit-eight f s = grind arith
 
 fit-eights : (fs : List Figures) → ((k : ℕ) → k < length fs → FiguresSmall (get_or fs k no_figures)) → Fit (eights fs)
 unfolding eights
-fit-eights [] h = tt
-fit-eights (f ∷ fs) h = fit_append (eight f) (eights fs) (fit-eight f (h 0 (omega arith))) (fit-eights fs (λ k l. h (suc k) (omega arith)))
+fit-eights [] h = All-nil Fits
+fit-eights (f ∷ fs) h = All-append Fits (eight f) (eights fs) (fit-eight f (h 0 (omega arith))) (fit-eights fs (λ k l. h (suc k) (omega arith)))
+
+fit-closing : (total : ℤ) (project belt : ℕ) → Fits total → project < 2 ^ 63 → belt < 2 ^ 63 → Fit (closing total project belt)
+fit-closing total project belt h p b = grind (arith, tonnes-le)
 
 written_at : (zs : List ℤ) → Fit zs → (buffer : List ℕ) (i : ℕ) → i < length zs → figure_at (written zs buffer) (8 * i) ≡ get_or zs i (pos 0)
 written_at zs f buffer i h =
     subst (λ (l : List ℤ). figure_at (written l buffer) (8 * i) ≡ get_or zs i (pos 0)) (sym (split_at zs i (pos 0) h))
-    (written-figure (take i zs) (get_or zs i (pos 0)) (drop (suc i) zs) buffer (8 * i) (omega (arith, length-take-le i zs (omega arith))) (fit_at zs f i h))
+    (written-figure (take i zs) (get_or zs i (pos 0)) (drop (suc i) zs) buffer (8 * i) (omega (arith, length-take-le i zs (omega arith))) (All-get_or Fits zs i (pos 0) h f))
 
 -- the j-th of the k-th eight
 eights_at : (fs : List Figures) (rest : List ℤ) (k j : ℕ) → k < length fs → j < 8 → get_or (eights fs ++ rest) (8 * k + j) (pos 0) ≡ get_or (eight (get_or fs k no_figures)) j (pos 0)
@@ -74,16 +58,18 @@ eights_at (f ∷ fs) rest (suc k) j h q =
 -- running totals within the years fit, and so do the tonnes issued at them
 fit-totals : (k first : ℕ) (figures : List Figures) → SmallYears k figures → (ends : List ℕ)
     → Inside first k ends → Fit (totals_at first (credited_in figures) ends)
-fit-totals k first figures small [] inside = tt
-fit-totals k first figures small (end ∷ ends) inside =
-    let (later, early) = inside 0 (omega arith) in
-    (running_fits k figures small (end + 1 - first) (omega arith), fit-totals k first figures small ends (λ i q. inside (suc i) (omega arith)))
+fit-totals k first figures small ends inside =
+    All-map Fits (λ end. running_total (credited_in figures) (end + 1 - first)) ends
+    (All-from_get_or (λ end. Fits (running_total (credited_in figures) (end + 1 - first))) ends 0
+    (λ i q. running_fits k figures small (get_or ends i 0 + 1 - first) (omega (arith, inside i q))))
 
 fit-issued : (before : ℕ) (totals : List ℤ) → Fit totals → Fit (issued_after (pos before) totals)
 unfolding issued_after
-fit-issued before [] h = tt
-fit-issued before (total ∷ totals) (small, rest) =
-    rw (issued_now_lem before (tonnes_of total) total refl) (omega (arith, tonnes-le total), fit-issued (before + (tonnes_of total - before)) totals rest)
+fit-issued before [] h = All-nil Fits
+fit-issued before (total ∷ totals) h =
+    let now = tonnes_of total - before in
+    subst (λ (issued : ℤ). Fit (issued ∷ issued_after (pos before +ℤ issued) totals)) (sym (issued_now_lem before (tonnes_of total) total refl))
+    (All-cons Fits (pos now) _ (omega (arith, tonnes-le total, All-head Fits total totals h)) (fit-issued (before + now) totals (All-tail Fits total totals h)))
 
 -- ---- the report of a ledger that the calls handed back
 module _ (l : Ledger) (kept : LedgerKept l) where
@@ -112,9 +98,7 @@ module _ (l : Ledger) (kept : LedgerKept l) where
 
   last_fit : Fit last
   unfolding last
-  last_fit = fit_four l.state.total.0 (pos (tonnes_of l.state.total.0)) (pos l.state.project.balance.0) (pos l.state.belt.balance.0)
-      (omega (arith, kept.total, kept.count)) (omega (arith, tonnes-le l.state.total.0, kept.total, kept.count))
-      (omega (arith, kept.project)) (omega (arith, kept.belt))
+  last_fit = fit-closing _ _ _ (omega (arith, kept.total, kept.count)) (omega (arith, kept.project)) (omega (arith, kept.belt))
 
   -- ---- bytes in which the report stands: each of its numbers is read back
   module _ (closed : List ℕ) (back : (i : ℕ) → i < length (report l) → figure_at closed (8 * i) ≡ get_or (report l) i (pos 0)) where
@@ -141,7 +125,7 @@ module _ (l : Ledger) (kept : LedgerKept l) where
     issued-fit = fit-issued 0 _ (fit-totals l.given (first_year l) l.figures (years-small l kept) ends (sound-inside _ _ ends fit))
 
     numbers_fit : Fit (periods_report l ends)
-    numbers_fit = fit_append (report l) _ (rw report-is (fit_append years last years-fit last_fit)) issued-fit
+    numbers_fit = All-append Fits (report l) _ (rw report-is (All-append Fits years last years-fit last_fit)) issued-fit
 
     -- the report's bytes stand first, whatever the list
     pub report-first : take (64 * l.given + 32) (periods_buffer l ends buffer) ≡ figures_bytes (report l)
@@ -167,3 +151,13 @@ module _ (l : Ledger) (kept : LedgerKept l) where
         ap (figure_at (periods_buffer l ends buffer)) (sym e)
         ∙ numbers_back (length (report l) + i) (simp length-append (omega (arith, count-issued (first_year l) (credited_in l.figures) ends)))
         ∙ get_or-append-add (report l) issued i (pos 0)
+
+-- figures that fit, one after the other and each by its place
+fit_append : (xs ys : List ℤ) → Fit xs → Fit ys → Fit (xs ++ ys)
+fit_append xs ys h k = All-append Fits xs ys h k
+
+fit_at : (zs : List ℤ) → Fit zs → (i : ℕ) → i < length zs → mag (get_or zs i (pos 0)) < 2 ^ 63
+fit_at zs h i l = All-get_or Fits zs i (pos 0) l h
+
+fit_four : (a b c d : ℤ) → mag a < 2 ^ 63 → mag b < 2 ^ 63 → mag c < 2 ^ 63 → mag d < 2 ^ 63 → Fit (a ∷ b ∷ c ∷ d ∷ [])
+fit_four a b c d p q r s = All-cons Fits a (b ∷ c ∷ d ∷ []) p (All-cons Fits b (c ∷ d ∷ []) q (All-cons Fits c (d ∷ []) r (All-cons Fits d [] s (All-nil Fits))))

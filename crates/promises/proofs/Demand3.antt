@@ -1,13 +1,6 @@
 -- Demands 2 and 3 of the ledger's calls: one theorem for any opening piece and any list of calls after it.
 -- Assumes nothing.
-use Prim.Native.Nat.{ℕ, ◌+◌, ◌*◌, ◌≤◌, ◌<◌}
-use mathlib.Core.Path.{◌≡◌, refl, ◌∙◌, ap, sym}
-use mathlib.Core.List.{List, []}
-use native.Mathlib.Nat.{zero-add}
-use native.Mathlib.Omega.{arith}
-use lib.IntN.{pos}
-use lib.ListN.{length, get_or, take}
-use lib.Seq.{take_all}
+use Rattle.std.proofs.Common.{◌≡◌, ℕ, ◌+◌, ◌*◌, ◌≤◌, ◌<◌, List, [], pos, length, get_or, take, take_all, zero-add, refl, ◌∙◌, ap, sym, arith}
 use Rattle.arithmetic.specs.Sum.{sum}
 use Rattle.arithmetic.proofs.IntegerSums.{int_sum_cong}
 use Rattle.classes.specs.Classes.{greatest_in}
@@ -26,19 +19,18 @@ use Rattle.wire.specs.Signed.{figure_at}
 use Rattle.report.specs.Report.{eight, closing}
 use Rattle.periods.specs.Periods.{ends_sound, running_total}
 use Rattle.dossier.specs.Records.{Opening, OpeningInRange, terms_of, state_of, empty_terms, empty_state, Settled, settled}
-use Rattle.dossier.specs.Reader.{Judged, refused, accepted}
 use Rattle.dossier.specs.Judging.{opening_piece}
 use Rattle.reckoner.specs.Ledger.{Ledger, new_ledger, empty_ledger, opened_ledger, given_years, report}
-use Rattle.reckoner.specs.Calls.{open_judged, open_call, closed_buffer, opened}
+use Rattle.reckoner.specs.Calls.{open_call, closed_buffer, opened}
 use Rattle.reckoner.proofs.RegionKept.{units-total}
 use Rattle.reckoner.proofs.Invariant.{LedgerKept, open-either, open_kept, in_use_rows, YearsTaken, years-kept}
 use Rattle.reckoner.proofs.Numbers.{given-count}
-use Rattle.promises.specs.CallList.{Call, after_calls, ledger_after, LentBytes, accepted_years, years_after, standing_calls, standing}
+use Rattle.promises.specs.CallList.{Call, ledger_after, LentBytes, accepted_years, years_after, standing_calls, standing}
 use Rattle.promises.specs.Reported.{years_figures, credited_at, RegionReported, Reported}
 use Rattle.promises.specs.Lists.{settled_by, ClosingAssured, ListAssured}
 use Rattle.promises.proofs.ClosingLaws.{year-figure, last-figure, report_back}
 use Rattle.promises.proofs.YearsLaws.{own-figures, given-total, from_nothing, given-project, given-belt, years-reckoned}
-use Rattle.promises.proofs.CallsLaws.{calls-handed, brought_when, gives, stands, standing-count}
+use Rattle.promises.proofs.CallsLaws.{calls-handed, brought_when, gives, stands}
 
 -- ---- a ledger as an opening hands it back
 pub record Opened (l : Ledger) : Type 0 where
@@ -74,12 +66,8 @@ abbrev pub settled_in : Ledger → Settled
 settled_in l = record { terms = l.terms; state = l.state }
 
 pub opening-settled : (piece : List ℕ) → settled_in (open_call piece).ledger ≡ settled_by (opening_piece piece)
-unfolding open_call
-opening-settled piece = go (opening_piece piece)
-  where
-    go : (j : Judged Opening) → settled_in (open_judged j).ledger ≡ settled_by j
-    go (refused n) = unfold empty_ledger new_ledger in refl
-    go (accepted o rest) = unfold opened_ledger new_ledger settled in refl
+unfolding open_call empty_ledger opened_ledger new_ledger settled
+opening-settled piece = grind arith
 
 -- ---- that ledger given years in range, and closed
 module _ (l : Ledger) (o : Opened l) (k : LedgerKept l) (ys : List Year) (in_range : YearsTaken l ys) where
@@ -161,14 +149,12 @@ module _ (opening : List ℕ) (b : Bytes opening) where
   same-ledger calls c =
       let l = (open_call opening).ledger in
       let k = open_kept opening b in
+      let g = gives calls l k c in
       let n = length (standing_calls calls l) in
       let all : take n (standing_calls calls l) ≡ standing_calls calls l = take_all n (standing_calls calls l) (omega arith) in
-      let every : take n (accepted_years calls l) ≡ accepted_years calls l = take_all n (accepted_years calls l) (omega (arith, standing-count calls l k c)) in
       let s = stands calls l k c n in
-      ap (λ (cs : List Call). after_calls cs l) (sym all)
-      ∙ (gives (take n (standing_calls calls l)) l k s.lent).ledger
-      ∙ ap (λ (ys : List Year). given_years ys l) (s.years ∙ every)
-      ∙ sym (gives calls l k c).ledger
+      let years : accepted_years (standing_calls calls l) l ≡ accepted_years calls l = rw all at s.years ∙ take_all n (accepted_years calls l) (omega (arith, g.number)) in
+      (gives (standing_calls calls l) l k (rw all at s.lent)).ledger ∙ rw (years, g.ledger)
 
 -- demands 2 and 3
 pub demand3 : (opening : List ℕ) → Bytes opening → (calls : List Call) → LentBytes calls → ListAssured opening calls
@@ -181,7 +167,7 @@ demand3 opening b calls c =
       brought = brought_when;
       after = closing-assured opening b calls c;
       same = same-ledger opening b calls c;
-      number = unfold years_after in standing-count calls l k c;
+      number = unfold years_after in (gives calls l k c).number;
       first = λ y. unfold years_after in (s y).years;
       after_first = λ y. closing-assured opening b (take y (standing_calls calls l)) (s y).lent;
     }

@@ -1,39 +1,32 @@
 -- A dossier is its opening and its years, opened, given and closed; demands 2 and 3 of it.
 -- Assumes nothing.
-use Prim.Native.Nat.{ℕ, ◌+◌, ◌*◌, ◌≤◌}
-use mathlib.Core.Path.{◌≡◌, refl, ◌∙◌, ap, sym, subst}
-use mathlib.Core.Bool.{true}
-use mathlib.Core.Option.{Option, none}
-use mathlib.Core.List.{List, [], ◌∷◌, ◌++◌, map, append_assoc, append-nil}
-use native.Mathlib.Omega.{arith}
-use lib.IntN.{pos}
-use lib.ListN.{length, take, replicate}
-use Rattle.figures.specs.Figures.{tonnes_of}
+use Rattle.std.proofs.Common.{◌≡◌, ℕ, ◌+◌, ◌*◌, ◌≤◌, true, List, [], ◌∷◌, ◌++◌, map, length, take, replicate, append_assoc, append-nil, refl, ◌∙◌, ap, sym, arith}
+use mathlib.Core.Option.{Option}
 use Rattle.figures.specs.Year.{Year}
 use Rattle.wire.specs.Bytes.{Bytes, bytes, joined}
-use Rattle.wire.specs.Signed.{figures_bytes, figure_at}
+use Rattle.wire.specs.Signed.{figures_bytes}
 use Rattle.wire.proofs.BytesLaws.{bytes-before, bytes_after}
 use Rattle.dossier.specs.Marks.{mark_en}
 use Rattle.dossier.specs.Plan.{Plan}
 use Rattle.dossier.specs.Records.{opening_bytes, settled, first_due, next, year_bytes, Dossier, DossierInRange, dossier_bytes, WellFormedPlan}
-use Rattle.dossier.specs.Reader.{Judged, accepted}
-use Rattle.dossier.specs.Judging.{dossier, opening_piece, year_piece}
+use Rattle.dossier.specs.Reader.{accepted}
+use Rattle.dossier.specs.Judging.{dossier, year_piece}
 use Rattle.dossier.specs.JudgingPlan.{lent_plan, under}
-use Rattle.dossier.proofs.WellFormed.{dossier-accepted, opening-accepted, plan-accepted}
+use Rattle.dossier.proofs.WellFormed.{opening-accepted, plan-accepted}
 use Rattle.dossier.proofs.UnderLaws.{under-accepted, no_plan}
 use Rattle.dossier.proofs.Pieces.{YearPieces, years-given}
 use Rattle.dossier.proofs.DossierLaws.{room-opening}
-use Rattle.periods.specs.Periods.{EndsInRange, ends_sound, running_total}
+use Rattle.periods.specs.Periods.{EndsInRange, ends_sound}
 use Rattle.periods.proofs.EndsLaws.{ends-judged}
 use Rattle.reckoner.specs.Ledger.{Ledger, new_ledger, opened_ledger, due_of, given_year, given_years, ledger_of, report}
 use Rattle.reckoner.specs.Calls.{Answer, open_call, periods_buffer, dossier_call, reckon_says, reckon_number, reckon_buffer}
-use Rattle.reckoner.proofs.Invariant.{LedgerKept, opened-kept, YearsTaken, years-kept, under_one}
+use Rattle.reckoner.proofs.Invariant.{dossier-taken, ledger-kept, LedgerKept, opened-kept, YearsTaken}
 use Rattle.reckoner.proofs.CloseLaws.{sound}
-use Rattle.reckoner.proofs.Numbers.{given-all, first-is, sound-years, number-zero}
+use Rattle.reckoner.proofs.Numbers.{judged_as_lem, given-all, first-is, sound-years, number-zero}
 use Rattle.sheet.specs.Sheet.{sheet_of}
-use Rattle.printout.specs.Printout.{printed, printout}
+use Rattle.printout.specs.Printout.{printout}
 use Rattle.promises.specs.CallList.{Call, after_calls, ledger_after, LentBytes, accepted_years, years_after, standing_calls, standing}
-use Rattle.promises.specs.Reported.{credited_at, Reported}
+use Rattle.promises.specs.Reported.{Reported}
 use Rattle.promises.specs.Periods.{PeriodsReported}
 use Rattle.promises.specs.Lists.{ListAssured}
 use Rattle.promises.specs.Dossiers.{SameInPieces, year_calls, ReckoningAssured, DossierAssured, CallAssured}
@@ -48,6 +41,7 @@ record Each (planned : List ℕ) (ys : List Year) (l : Ledger) : Type 0 where
   stand : standing_calls (year_calls planned ys) l ≡ year_calls planned ys
   ledger : after_calls (year_calls planned ys) l ≡ given_years ys l
 
+-- one year more
 each_more : (planned : List ℕ) (y : Year) (ys : List Year) (l : Ledger) → Taken (year_bytes y) planned l y → Each planned ys (given_year y l) → Each planned (y ∷ ys) l
 unfolding accepted_years standing_calls after_calls given_years
 each_more planned y ys l t i = record {
@@ -57,11 +51,11 @@ each_more planned y ys l t i = record {
 }
 
 each : (planned : List ℕ) (p : Option Plan) (rest : List ℕ) → lent_plan planned ≡ accepted p rest → (ys : List Year) (l : Ledger) → YearPieces (due_of p l) ys → Each planned ys l
-unfolding given_year due_of next
-each planned p rest e [] l h = unfold accepted_years standing_calls after_calls given_years in record { years = refl; stand = refl; ledger = refl }
+unfolding accepted_years standing_calls after_calls given_years
+each planned p rest e [] l h = record { years = refl; stand = refl; ledger = refl }
 each planned p rest e (y ∷ ys) l h =
     let judged = under-accepted (λ p. year_piece (due_of p l)) (year_bytes y) planned p rest e ∙ h.0 in
-    each_more planned y ys l (taken (year_bytes y) planned l y [] judged) (each planned p rest e ys (given_year y l) h.1)
+    each_more planned y ys l (taken (year_bytes y) planned l y [] judged) (each planned p rest e ys (given_year y l) (unfold given_year due_of next in h.1))
 
 lent-years : (planned : List ℕ) → Bytes planned → (ys : List Year) (t : List ℕ) → Bytes (joined (map year_bytes ys) ++ t) → LentBytes (year_calls planned ys)
 lent-years planned bp [] t b = tt
@@ -87,12 +81,9 @@ module _ (s planned : List ℕ) (b : Bytes s) (bp : Bytes planned) (p : Option P
   plan-judged : lent_plan planned ≡ accepted p []
   plan-judged = ap lent_plan w.1 ∙ plan-accepted.complete p w.0
 
-  opening-judged : opening_piece first ≡ accepted d.opening []
-  opening-judged = opening-accepted.complete d.opening h.opening
-
   opened-is : open_call first ≡ record { ledger = opened_ledger d.opening; answer = Answer.Accepted }
   unfolding open_call
-  opened-is = rw opening-judged
+  opened-is = rw (opening-accepted.complete d.opening h.opening)
 
   in_turn : Each planned d.years (opened_ledger d.opening)
   in_turn = each planned p [] plan-judged d.years (opened_ledger d.opening)
@@ -104,7 +95,7 @@ module _ (s planned : List ℕ) (b : Bytes s) (bp : Bytes planned) (p : Option P
   ledger-is = rw opened-is in_turn.ledger
 
   judged : under planned dossier s ≡ accepted d []
-  judged = under-accepted dossier s planned p [] plan-judged ∙ ap (dossier p) e ∙ (dossier-accepted p w.0).complete d h
+  judged = judged_as_lem s planned p w d h e
 
   whole_is : dossier_call s planned ≡ record { ledger = ledger_of d; answer = Answer.Accepted }
   unfolding dossier_call
@@ -123,18 +114,14 @@ module _ (s planned : List ℕ) (b : Bytes s) (bp : Bytes planned) (p : Option P
 
   sheet_printed : planned ≡ [] → printout s ≡ sheet_of d.opening.head.first_year (length d.years) (reckon_buffer s [] [] (replicate 1312 0))
   unfolding printout
-  sheet_printed z =
-      let no-plan-judged : dossier none s ≡ accepted d [] = sym (no_plan dossier s) ∙ ap (λ (l : List ℕ). under l dossier s) (sym z) ∙ judged in
-      ap (λ (j : Judged Dossier). printed j (reckon_buffer s [] [] (replicate 1312 0))) no-plan-judged
-      ∙ ap (λ (n : ℕ). sheet_of d.opening.head.first_year n (reckon_buffer s [] [] (replicate 1312 0))) (sym h.count)
+  sheet_printed z = grind (arith, judged, no_plan dossier s, h.count)
 
   -- ---- with a list of period ends
   taken-all : YearsTaken (opened_ledger d.opening) d.years
-  taken-all = under_one p w.0 (opened_ledger d.opening) d.years (unfold opened_ledger new_ledger due_of first_due in h.years)
+  taken-all = dossier-taken p w.0 d h
 
   own-kept : LedgerKept (ledger_of d)
-  unfolding ledger_of
-  own-kept = years-kept (opened_ledger d.opening) (opened-kept d.opening h.opening) d.years taken-all
+  own-kept = ledger-kept p w.0 d h
 
   count-all : (ledger_of d).given ≡ length d.years
   count-all = given-all p d h ∙ sym h.count
@@ -161,13 +148,10 @@ module _ (s planned : List ℕ) (b : Bytes s) (bp : Bytes planned) (p : Option P
         _ (report_back (ledger_of d) own-kept ends buffer is-sound enough)
 
     own-periods : PeriodsReported d.opening.head.first_year (length d.years) ends (periods_buffer (ledger_of d) ends buffer)
+    unfolding ledger_of given_years
     own-periods =
-        let closed = periods_buffer (ledger_of d) ends buffer in
-        let total = subst (λ (n : ℕ). figure_at closed (64 * n) ≡ running_total (credited_at closed) n) (sym count-all) own-reported.total in
-        let tonnes = subst (λ (n : ℕ). figure_at closed (64 * n + 8) ≡ pos (tonnes_of (figure_at closed (64 * n)))) (sym count-all) own-reported.tonnes in
-        subst (λ (n : ℕ). PeriodsReported d.opening.head.first_year n ends closed) count-all
-        (subst (λ (first : ℕ). PeriodsReported first (ledger_of d).given ends closed) (first-is p d h)
-        (periods-reported (ledger_of d) own-kept ends buffer is-sound enough total tonnes))
+        rw (first-is p d h, count-all) at
+        (periods-reported (ledger_of d) own-kept ends buffer is-sound enough (rw (← count-all) at own-reported.total) (rw (← count-all) at own-reported.tonnes))
 
     own_first : take (64 * length d.years + 32) (reckon_buffer s planned ends buffer) ≡ figures_bytes (report (ledger_of d))
     own_first = rw (own_buffer, ← count-all) (report-first (ledger_of d) own-kept ends buffer is-sound enough)

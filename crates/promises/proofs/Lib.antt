@@ -11,3 +11,4 @@ pub mod Examples
 pub mod DecimalLaws
 pub mod FieldLaws
 pub mod ShortLaws
+pub mod CauseLaws

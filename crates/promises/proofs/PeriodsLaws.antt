@@ -1,13 +1,8 @@
 -- The tonnes issued, read back from the bytes of a ledger's report with a list of period ends, beside the credited figures there.
 -- Assumes nothing.
-use Prim.Native.Nat.{ℕ, ◌+◌, ◌-◌, ◌*◌, ◌^◌, ◌≤◌, ◌<◌}
-use mathlib.Core.Path.{◌≡◌, refl, ◌∙◌, ap, sym}
-use mathlib.Core.Bool.{true}
-use mathlib.Core.List.{List, [], ◌∷◌, map}
-use native.Mathlib.Omega.{arith}
-use lib.IntN.{ℤ, pos, ◌-ℤ◌}
-use lib.Signed.{mag}
-use lib.ListN.{length, get_or, take, length-map}
+use Rattle.std.proofs.Common.{◌≡◌, ℕ, ◌+◌, ◌-◌, ◌*◌, ◌^◌, ◌≤◌, ◌<◌, true, List, [], ◌∷◌, map, ℤ, pos, ◌-ℤ◌, length, get_or, take, refl, ◌∙◌, ap, sym, arith}
+use Rattle.std.specs.Int.Signed.{mag}
+use Rattle.std.proofs.Math.ListN.{length-map}
 use Rattle.arithmetic.specs.Sum.{int_sum}
 use Rattle.arithmetic.proofs.IntegerSums.{int_sum_cong, int_sum_between, int_sum_mag}
 use Rattle.classes.specs.Classes.{greatest_in}

@@ -1,9 +1,9 @@
 -- A closing by a sound list: with a buffer too short for it the number of a short buffer, and every byte as it was; otherwise 0, and the report with the
 -- tonnes issued.
 -- Assumes nothing.
-use Rattle.std.proofs.Common.{ℕ, ◌≡◌, ◌+◌, ◌*◌, ◌≤◌, ◌<◌, List, true, take, length, refl, sym}
+use Rattle.std.proofs.Common.{ℕ, ◌≡◌, ◌+◌, ◌*◌, ◌≤◌, ◌<◌, List, true, length, refl, sym, arith}
+use Rattle.std.proofs.lemmas.Bool.Decides.{nat_tests}
 use Rattle.std.proofs.lemmas.List.Edits.{sets}
-use borrow.Author.Tests.{lt-ltb}
 use Rattle.dossier.specs.Causes.{buffer_too_short}
 use Rattle.wire.specs.Signed.{figures_bytes, written}
 use Rattle.periods.specs.Periods.{credited_in, issued_tonnes}
@@ -17,7 +17,7 @@ use Rattle.reckoner.proofs.CloseLaws.{sound, periods-written, periods-zero}
 pub periods_short : (l : Ledger) (ends buffer : List ℕ) → sound l ends ≡ true → length buffer < 64 * l.given + 32 + 8 * length ends
     → (buffer_too_short ≡ (periods_says l ends (length buffer)).number) × (buffer ≡ periods_buffer l ends buffer)
 unfolding periods_answer periods_buffer
-periods_short l ends buffer e h = rw (e, lt-ltb (length buffer) (64 * l.given + 32 + 8 * length ends) h) (refl, refl)
+periods_short l ends buffer e h = grind (arith, nat_tests)
 
 pub periods_closed : (l : Ledger) (ends buffer : List ℕ) → sound l ends ≡ true → 64 * l.given + 32 + 8 * length ends ≤ length buffer → LedgerKept l
     → (first : ℕ) → first ≡ first_year l → (reported after : List ℕ) → reported ≡ written (report l) buffer

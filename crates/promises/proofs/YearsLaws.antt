@@ -1,20 +1,15 @@
 -- A ledger given years in range, one after the other: what it then carries, beside the unrounded reckoning of the same years.
 -- Assumes nothing.
-use Prim.Native.Nat.{ℕ, zero, suc, ◌+◌, ◌≤◌, ◌<◌}
-use mathlib.Core.Path.{◌≡◌, refl, ◌∙◌, ap, sym}
-use mathlib.Core.List.{List, [], ◌∷◌}
-use native.Mathlib.Omega.{arith}
-use lib.IntN.{ℤ, pos, ◌+ℤ◌, +ℤ_assoc, +ℤ_idl, +ℤ_idr}
-use lib.ListN.{length, get_or, length-set}
-use lib.Seq.{get_or-set_same, get_or-set_other}
+use Rattle.std.proofs.Common.{◌≡◌, ℕ, zero, suc, ◌+◌, ◌≤◌, ◌<◌, List, [], ◌∷◌, ℤ, pos, ◌+ℤ◌, length, get_or, refl, sym, arith}
+use Rattle.std.proofs.lemmas.Grind.{common_steps, get_or-set_at}
+use Rattle.std.proofs.Math.IntN.{+ℤ_assoc, +ℤ_idl, +ℤ_idr}
 use Rattle.arithmetic.specs.Sum.{int_sum}
 use Rattle.arithmetic.proofs.IntegerSums.{int_sum-first}
 use Rattle.classes.specs.Classes.{emission_factor}
 use Rattle.classes.specs.Matrix.{RowsSum}
-use Rattle.projection.specs.Projection.{projected_region}
 use Rattle.figures.specs.Figures.{no_figures}
 use Rattle.figures.specs.Year.{Year}
-use Rattle.figures.specs.Reckoning.{year_figures, record_count, after_figures, after_year}
+use Rattle.figures.specs.Reckoning.{record_count, after_figures, after_year}
 use Rattle.assurance.specs.Unrounded.{Unrounded, fraction_after_years}
 use Rattle.assurance.proofs.YearLaws.{Reckoned, year-reckoned}
 use Rattle.periods.specs.Periods.{running_total, credited_in}
@@ -22,39 +17,25 @@ use Rattle.reckoner.specs.Ledger.{Ledger, due_of, given_year, given_years}
 use Rattle.reckoner.proofs.Invariant.{YearsTaken}
 use Rattle.promises.specs.Reported.{years_figures, projected_years}
 
--- a year changes no terms
-pub given-terms : (ys : List Year) (l : Ledger) → (given_years ys l).terms ≡ l.terms
-unfolding given_years
-given-terms [] l = refl
-given-terms (y ∷ ys) l = given-terms ys (given_year y l) ∙ unfold given_year in refl
-
 -- ---- the figures: those of the years before stay, and each year adds its own
 figures_stay : (ys : List Year) (l : Ledger) (i : ℕ) → i < l.given → get_or (given_years ys l).figures i no_figures ≡ get_or l.figures i no_figures
 unfolding given_years given_year
 figures_stay [] l i h = refl
-figures_stay (y ∷ ys) l i h = figures_stay ys (given_year y l) i (omega arith) ∙ get_or-set_other l.figures l.given i _ no_figures (λ e. omega arith)
+figures_stay (y ∷ ys) l i h = grind (arith, common_steps, figures_stay ys (given_year y l) i)
 
 pub own-figures : (ys : List Year) (l : Ledger) → l.given + length ys ≤ length l.figures → (k : ℕ) → k < length ys
     → get_or (given_years ys l).figures (l.given + k) no_figures ≡ get_or (years_figures l.terms l.state.project l.state.belt ys) k no_figures
 unfolding given_years given_year after_year after_figures years_figures
 own-figures [] l h k q = absurd (omega arith)
-own-figures (y ∷ ys) l h zero q =
-    let e : l.given + 0 ≡ l.given = omega arith in
-    rw e (figures_stay ys (given_year y l) l.given (omega arith) ∙ get_or-set_same l.figures l.given _ no_figures (omega arith))
-own-figures (y ∷ ys) l h (suc k) q =
-    let e : l.given + 1 + k ≡ l.given + suc k = omega arith in
-    ap (λ (i : ℕ). get_or (given_years ys (given_year y l)).figures i no_figures) (sym e) ∙ own-figures ys (given_year y l) (simp length-set (omega arith)) k (omega arith)
+own-figures (y ∷ ys) l h zero q = grind (arith, common_steps, get_or-set_at, figures_stay ys (given_year y l) l.given)
+own-figures (y ∷ ys) l h (suc k) q = grind (arith, common_steps, own-figures ys (given_year y l))
 
 -- the total is the running total of all of them
 pub given-total : (ys : List Year) (l : Ledger)
     → (given_years ys l).state.total.0 ≡ l.state.total.0 +ℤ running_total (credited_in (years_figures l.terms l.state.project l.state.belt ys)) (length ys)
 unfolding given_years given_year after_year after_figures years_figures
 given-total [] l = unfold int_sum in sym (+ℤ_idr _)
-given-total (y ∷ ys) l =
-    let f = year_figures l.terms y l.state.project l.state.belt in
-    let fs = years_figures l.terms (projected_region l.terms.matrix l.state.project) (projected_region l.terms.matrix l.state.belt) ys in
-    given-total ys (given_year y l) ∙ +ℤ_assoc l.state.total.0 f.credited.0 _
-    ∙ ap (λ (z : ℤ). l.state.total.0 +ℤ z) (sym (int_sum-first (length ys) (credited_in (f ∷ fs))))
+given-total (y ∷ ys) l = rw (int_sum-first (length ys) _, ← +ℤ_assoc) (given-total ys (given_year y l))
 
 pub from_nothing : (z x : ℤ) → z ≡ pos 0 → z +ℤ x ≡ x
 from_nothing z x e = rw e (+ℤ_idl x)

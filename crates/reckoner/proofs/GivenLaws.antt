@@ -1,25 +1,22 @@
 -- Years given to a ledger one after the other, each by a step of the tables of the terms.
 -- Assumes nothing.
-use Prim.Native.Nat.{ℕ, suc, ◌+◌, ◌-◌, ◌≤◌, ◌<◌}
-use mathlib.Core.Path.{◌≡◌, refl, ◌∙◌, sym}
+use Rattle.std.proofs.Common.{◌≡◌, ℕ, suc, ◌+◌, ◌-◌, ◌*◌, ◌≤◌, ◌<◌, List, set, refl, ◌∙◌, sym, arith}
+use Rattle.std.specs.Int.Signed.{mag}
 use mathlib.Core.Option.{Option}
-use mathlib.Core.List.{List}
-use native.Mathlib.Omega.{arith}
-use lib.ListN.{set}
 use Rattle.classes.specs.Classes.{emission_factor}
 use Rattle.classes.specs.Matrix.{entry, table_of}
+use Rattle.classes.specs.Ranges.{greatest_figure}
 use Rattle.figures.specs.declared.Terms.{Terms}
 use Rattle.figures.specs.Figures.{counted_factor}
-use Rattle.figures.specs.Year.{Year}
 use Rattle.dossier.specs.Plan.{Plan, records_for}
 use Rattle.dossier.specs.Reader.{Judged, refused, accepted, after, give, followed}
-use Rattle.dossier.specs.Judging.{year}
 use Rattle.reckoning.specs.declared.Advanced.{Advanced}
 use Rattle.reckoning.specs.Step.{stepped_year}
 use Rattle.reckoning.proofs.StepLaws.{year_advanced, step_is}
 use Rattle.reckoner.specs.declared.Years.{Years}
 use Rattle.reckoner.specs.Ledger.{due_of, given_year}
-use Rattle.reckoner.specs.Parts.{ledger_with, give_years}
+use Rattle.reckoner.specs.Said.{ledger_with}
+use Rattle.reckoner.specs.Parts.{give_years}
 
 -- the years given and one more, of which a step made this
 abbrev pub with_advanced : Years → Advanced → Years
@@ -32,17 +29,13 @@ module _ (t : Terms) (factors counted : List ℕ) (plan : Option Plan) (years : 
 
   pub next-step : (factors ≡ table_of (emission_factor t.stocks)) → (counted ≡ table_of (counted_factor t.option (emission_factor t.stocks))) → (k : ℕ)
       → give_years plan (suc k) (ledger_with t years) s ≡ after stepped (λ a. give_years plan k (ledger_with t (with_advanced years a)))
-  unfolding give_years due_of followed
-  next-step ef ec k = rw (step_is t factors counted ef ec plan years.state s) (go (year (due_of plan (ledger_with t years)) s))
-    where
-      go : (j : Judged Year) → after j (λ y. give_years plan k (given_year y (ledger_with t years)))
-          ≡ after (after j (λ y. give (year_advanced t y years.state))) (λ a. give_years plan k (ledger_with t (with_advanced years a)))
-      go (refused n) = refl
-      go (accepted y rest) = unfold given_year year_advanced give in refl
+  unfolding give_years due_of followed given_year year_advanced give
+  next-step ef ec k = grind (arith, step_is t factors counted ef ec plan years.state s)
 
 -- k of the years are given, and those to come come to what all come to
 pub record SoFar (plan : Option Plan) (t : Terms) (count : ℕ) (first : Years) (s : List ℕ) (k : ℕ) (years : Years) (rest : List ℕ) : Type 0 where
   pub room : years.given + years.state.left ≤ 20
+  pub total : mag years.state.total.0 ≤ greatest_figure * years.given
   pub goes_on : give_years plan count (ledger_with t first) s ≡ give_years plan (count - k) (ledger_with t years) rest
 
 module _ {plan : Option Plan} {t : Terms} {count : ℕ} {first : Years} {s : List ℕ} {k : ℕ} {years : Years} {rest : List ℕ} (f : SoFar plan t count first s k years rest) where
@@ -60,5 +53,5 @@ module _ {plan : Option Plan} {t : Terms} {count : ℕ} {first : Years} {s : Lis
     one_refused e = rw (to_come, ← e) refl
 
     pub one_more_lem : {a : Advanced} {next : List ℕ} → accepted a next ≡ stepped t factors counted plan years rest → a.state.left + 1 ≡ years.state.left
-        → SoFar plan t count first s (k + 1) (with_advanced years a) next
-    one_more_lem e h = record { room = omega (arith, f.room); goes_on = rw (to_come, ← e) refl }
+        → mag a.state.total.0 ≤ mag years.state.total.0 + greatest_figure → SoFar plan t count first s (k + 1) (with_advanced years a) next
+    one_more_lem e h more = record { room = omega (arith, f.room); total = omega (arith, f.total, more); goes_on = rw (to_come, ← e) refl }

@@ -1,17 +1,10 @@
 -- What holds of every ledger that the calls hand back, the empty one of a refused opening too.
 -- Assumes nothing.
-use Prim.Native.Nat.{ℕ, ◌+◌, ◌*◌, ◌≤◌, ◌<◌}
-use mathlib.Core.Path.{◌≡◌, refl, ◌∙◌}
-use mathlib.Core.Bool.{Bool, true, false}
-use mathlib.Core.Option.{Option, none, some}
-use mathlib.Core.List.{List, [], ◌∷◌}
-use native.Mathlib.Nat.{le_of_eq}
-use native.Mathlib.Omega.{arith}
-use lib.Dec.{eqb}
-use lib.Signed.{mag}
-use lib.ListN.{length, get_or, set, replicate, length-set, length-replicate, get_or-replicate}
-use lib.Seq.{get_or-set_same, get_or-set_other}
-use borrow.Author.Tests.{eqb-true, eqb-false}
+use Rattle.std.proofs.Common.{◌≡◌, ℕ, ◌+◌, ◌*◌, ◌≤◌, ◌<◌, List, [], ◌∷◌, length, get_or, set, replicate, length-set, le_of_eq, ◌∙◌, arith}
+use Rattle.std.specs.Int.Signed.{mag}
+use Rattle.std.proofs.Math.ListN.{length-replicate, get_or-replicate}
+use Rattle.std.proofs.lemmas.Grind.{common_steps}
+use mathlib.Core.Option.{Option}
 use Rattle.arithmetic.specs.Sum.{sum}
 use Rattle.arithmetic.proofs.SumLaws.{sum_cong, sum_const, length-listed}
 use Rattle.arithmetic.proofs.IntegerLaws.{mag_plus}
@@ -48,12 +41,11 @@ use Rattle.dossier.specs.Records.{
   DossierInRange,
 }
 use Rattle.dossier.specs.Claims.{DueInRange}
-use Rattle.dossier.specs.Reader.{Judged, refused, accepted}
-use Rattle.dossier.specs.Judging.{dossier, opening_piece, year_piece}
+use Rattle.dossier.specs.Judging.{dossier, year_piece}
 use Rattle.dossier.proofs.WellFormed.{dossier-accepted, opening-accepted, year-accepted}
 use Rattle.dossier.proofs.UnderLaws.{under-either}
 use Rattle.reckoner.specs.Ledger.{Ledger, new_ledger, empty_ledger, opened_ledger, due_of, given_year, given_years, ledger_of}
-use Rattle.reckoner.specs.Calls.{open_judged, open_call, year_judged, year_call, dossier_judged, dossier_call, HandedBack, opened, given, whole}
+use Rattle.reckoner.specs.Calls.{open_call, year_judged, year_call, dossier_judged, dossier_call, HandedBack, opened, given, whole}
 use Rattle.reckoner.proofs.YearRanges.{figures_range}
 use Rattle.reckoner.proofs.RegionKept.{RegionKept, zero_region, opened_region_lem, projected-kept}
 
@@ -98,18 +90,15 @@ empty_kept = record {
 -- ---- an opened ledger
 -- the matrix in use: each of its rows sums to 1,000,000
 pub in_use_rows : (option : ℕ) (m : Option (List ℕ)) → MatrixUnder option m → RowsSum (matrix_in_use m)
-in_use_rows option none h = option_one-rows
-in_use_rows option (some matrix) h = h.1.rows
+in_use_rows option m h = grind (arith, option_one-rows)
 
 in_use_places : (option : ℕ) (m : Option (List ℕ)) → MatrixUnder option m → length (matrix_in_use m) ≡ 144
 unfolding option_one_matrix
-in_use_places option none h = length-listed 144 _
-in_use_places option (some matrix) h = h.1.count
+in_use_places option m h = grind (arith, length-listed)
 
 -- no stock in use is above the greatest that may be filed
 in_use_stocks : (m : Option (List ℕ)) → StocksFiled m → (i : ℕ) → get_or (stocks_in_use m) i 0 ≤ greatest_stock
-in_use_stocks none h = built_in_le
-in_use_stocks (some stocks) h = places-le greatest_stock stocks (λ i l. h.each i (omega (arith, h.twelve)))
+in_use_stocks m h i = grind (arith, built_in_le, places-le)
 
 pub opened-kept : (o : Opening) → OpeningInRange o → LedgerKept (opened_ledger o)
 unfolding opened_ledger new_ledger terms_of state_of
@@ -141,7 +130,7 @@ given-kept plan lent l k y h = record {
   rows = k.rows;
   places = k.places;
   twenty = simp length-set k.twenty;
-  figures = λ i g. go i g (eqb i l.given) refl;
+  figures = grown;
 }
   where
     f : Figures
@@ -150,9 +139,8 @@ given-kept plan lent l k y h = record {
     small : FiguresSmall f
     small = figures_range l.terms k.stocks k.rows (due_of plan l) (due-kept plan lent l k) y h l.state.project l.state.belt (omega (arith, k.project)) (omega (arith, k.belt))
 
-    go : (i : ℕ) → i < l.given + 1 → (b : Bool) → eqb i l.given ≡ b → FiguresSmall (get_or (set l.figures l.given f) i no_figures)
-    go i g true e = rw (eqb-true i l.given e, get_or-set_same l.figures l.given f no_figures (omega (arith, k.count, h.left, k.twenty))) small
-    go i g false e = rw (get_or-set_other l.figures l.given i f no_figures (eqb-false i l.given e)) (k.figures i (omega (arith, eqb-false i l.given e)))
+    grown : (i : ℕ) → i < l.given + 1 → FiguresSmall (get_or (set l.figures l.given f) i no_figures)
+    grown i g = grind (arith, common_steps, h.left, small)
 
 -- years given one after the other, each in range for what is due by then, under a plan of its own
 abbrev pub YearsTaken : Ledger → List Year → Type 0
@@ -169,15 +157,19 @@ pub under_one : (p : Option Plan) → PlanLent p → (l : Ledger) (ys : List Yea
 under_one p lent l [] h = tt
 under_one p lent l (y ∷ ys) h = ((p, lent, h.0), under_one p lent (given_year y l) ys (unfold given_year due_of next in h.1))
 
+-- those of a dossier in range
+pub dossier-taken : (p : Option Plan) → PlanLent p → (d : Dossier) → DossierInRange p d → YearsTaken (opened_ledger d.opening) d.years
+dossier-taken p lent d h = under_one p lent (opened_ledger d.opening) d.years (unfold opened_ledger new_ledger due_of first_due in h.years)
+
+pub ledger-kept : (p : Option Plan) → PlanLent p → (d : Dossier) → DossierInRange p d → LedgerKept (ledger_of d)
+unfolding ledger_of
+ledger-kept p lent d h = years-kept (opened_ledger d.opening) (opened-kept d.opening h.opening) d.years (dossier-taken p lent d h)
+
 -- ---- the calls
 -- an opening hands back the empty ledger, or that of an opening in range
 pub open-either : (P : Ledger → Type 0) → P empty_ledger → ((o : Opening) → OpeningInRange o → P (opened_ledger o)) → (piece : List ℕ) → Bytes piece → P (open_call piece).ledger
 unfolding open_call
-open-either P empty of piece b = go (opening_piece piece) refl
-  where
-    go : (j : Judged Opening) → opening_piece piece ≡ j → P (open_judged j).ledger
-    go (refused n) e = empty
-    go (accepted o rest) e = of o (opening-accepted.sound piece b o rest e).0
+open-either P empty of piece b = grind (arith, opening-accepted.sound piece b)
 
 pub open_kept : (piece : List ℕ) → Bytes piece → LedgerKept (open_call piece).ledger
 open_kept = open-either LedgerKept empty_kept opened-kept
@@ -190,13 +182,7 @@ year-kept l k piece plan b bp = under-either (λ p. year_piece (due_of p l)) pie
 pub dossier-kept : (s plan : List ℕ) → Bytes s → Bytes plan → LedgerKept (dossier_call s plan).ledger
 unfolding dossier_call
 dossier-kept s plan b bp = under-either dossier s plan (λ j. LedgerKept (dossier_judged j).ledger) bp (λ n. empty_kept)
-    (λ p lent d rest e. of p lent d ((dossier-accepted p lent).sound s b d rest e).0)
-  where
-    of : (p : Option Plan) → PlanLent p → (d : Dossier) → DossierInRange p d → LedgerKept (ledger_of d)
-    of p lent d h =
-        unfold ledger_of in
-        years-kept (opened_ledger d.opening) (opened-kept d.opening h.opening) d.years
-        (under_one p lent (opened_ledger d.opening) d.years (unfold opened_ledger new_ledger due_of first_due in h.years))
+    (λ p lent d rest e. ledger-kept p lent d ((dossier-accepted p lent).sound s b d rest e).0)
 
 -- every ledger that the calls hand back
 pub handed-kept : {l : Ledger} → HandedBack l → LedgerKept l

@@ -5,3 +5,7 @@ pub mod GivenLaws
 pub mod CallLaws
 pub mod CloseLaws
 pub mod Numbers
+pub mod LentPlan
+pub mod OpenLaws
+pub mod YearLaws
+pub mod DossierLaws

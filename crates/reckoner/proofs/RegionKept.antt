@@ -1,13 +1,11 @@
 -- A region from its opening on: its areas and its balance make up the area it started from.
 -- Assumes nothing.
-use Prim.Native.Nat.{ℕ, zero, suc, ◌+◌}
-use mathlib.Core.Path.{◌≡◌, refl, ◌∙◌, sym}
-use mathlib.Core.List.{List, [], ◌∷◌}
-use native.Mathlib.Omega.{arith}
-use lib.ListN.{length, get_or, replicate, length-map}
+use Rattle.std.proofs.Common.{◌≡◌, ℕ, ◌+◌, List, length, get_or, replicate, refl, ◌∙◌, ap, sym, arith}
+use Rattle.std.proofs.Math.ListN.{length-map, get_or-map}
 use Rattle.arithmetic.specs.Sum.{sum}
 use Rattle.arithmetic.proofs.SumLaws.{sum_cong, length-listed}
 use Rattle.classes.specs.Classes.{classes}
+use Rattle.units.specs.declared.AreaUnits.{AreaUnits}
 use Rattle.projection.specs.declared.Region.{Region}
 use Rattle.projection.specs.Projection.{area, area_total, next_areas, opened_region, projected_region}
 use Rattle.classes.specs.Ranges.{RowsWithin}
@@ -29,9 +27,7 @@ unfolding sum opened_region
 zero_region = record { whole = refl; small = omega arith; twelve = refl }
 
 units-area : (xs : List ℕ) (i : ℕ) → area (units xs) i ≡ get_or xs i 0
-units-area [] i = refl
-units-area (x ∷ xs) zero = refl
-units-area (x ∷ xs) (suc i) = units-area xs i
+units-area xs i = ap (λ (unit : AreaUnits). unit.0) (get_or-map (λ (n : ℕ). record { 0 = n }) xs i 0)
 
 -- the areas that PA or DA says make up its total
 pub units-total : (xs : List ℕ) → length xs ≡ 12 → area_total (units xs) ≡ total xs

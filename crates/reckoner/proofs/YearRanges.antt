@@ -1,10 +1,6 @@
 -- The figures of a year in range are within the ladder.
 -- Assumes nothing.
-use mathlib.Core.Path.{refl}
-use Prim.Native.Nat.{ℕ, ◌≤◌}
-use mathlib.Core.List.{List}
-use native.Mathlib.Omega.{arith}
-use lib.ListN.{get_or}
+use Rattle.std.proofs.Common.{ℕ, ◌≤◌, List, get_or, refl, arith}
 use Rattle.classes.specs.Classes.{emission_factor, greatest_stock}
 use Rattle.classes.specs.Calendar.{days_in_year}
 use Rattle.classes.specs.Ranges.{greatest_emissions}

@@ -1,21 +1,15 @@
--- The calls of a ledger read step by step, as the code reads them, and what the code's results say.
+-- The calls of a ledger read step by step, as the code reads them.
 -- Serves contracts of inner functions and proofs; nothing here has to be believed. Assumes nothing.
 use Rattle.std.specs.Prelude.{ℕ, zero, suc, Result, Ok, Err}
 use Rattle.std.proofs.Math.Option.{Option}
 use Rattle.refusals.specs.declared.Refusal.{Refusal}
 use Rattle.refusals.specs.Refusals.{number_of}
-use Rattle.figures.specs.declared.Terms.{Terms}
 use Rattle.dossier.specs.Reader.{Judged, refused, accepted, Reader, ◌>>=◌, ◌>>◌, give, end_of_piece}
 use Rattle.dossier.specs.Plan.{Plan}
 use Rattle.dossier.specs.Judging.{year, end}
 use Rattle.opening.specs.Opened.{settled_opening, settled_piece}
-use Rattle.reckoner.specs.declared.Years.{Years}
 use Rattle.reckoner.specs.Ledger.{Ledger, new_ledger, due_of, given_year}
 use Rattle.reckoner.specs.Calls.{Answer, Step}
-
--- the ledger of these terms and years
-abbrev pub ledger_with : Terms → Years → Ledger
-ledger_with terms years = record { given = years.given; terms = terms; state = years.state; figures = years.figures }
 
 -- ---- what is read
 -- the ledger of an opening piece

@@ -1,14 +1,16 @@
 //! The reckoner's public calls: a ledger that is opened, given years and closed, and the whole reckoning of a dossier.
 #![tactic(auto)]
 
-ghost use Rattle.std.specs.Prelude.{◌≡◌, ◌+◌, ◌≤◌, ◌<◌, length, replicate};
+ghost use Rattle.std.specs.Prelude.{◌≡◌, ◌+◌, ◌*◌, ◌≤◌, ◌<◌, length, replicate};
+ghost use Rattle.std.specs.Int.Signed.{mag};
+ghost use Rattle.classes.specs.Ranges.{greatest_figure};
 ghost use Rattle.cursor.specs.Says.{says};
 ghost use Rattle.figures.specs.Figures.{no_figures};
 ghost use Rattle.dossier.specs.JudgingPlan.{under};
 ghost use Rattle.reckoner.specs.Ledger.{new_ledger, empty_ledger, first_year};
 ghost use Rattle.reckoner.specs.Calls.{open_call, year_call, periods_answer, periods_buffer, close_call, closed_buffer, dossier_call, HandedBack, answer_number, reckon_number, reckon_buffer};
-ghost use Rattle.reckoner.specs.Parts.{ledger_with, opened_piece, give_years, given_piece, given_dossier, step_judged, step_made};
-ghost use Rattle.reckoner.specs.Said.{answer_of, step_of};
+ghost use Rattle.reckoner.specs.Parts.{opened_piece, give_years, given_piece, given_dossier, step_judged, step_made};
+ghost use Rattle.reckoner.specs.Said.{ledger_with, answer_of, step_of};
 
 use cursor::Reader;
 use figures::{FactorTables, Figures, State, Terms};
@@ -22,7 +24,8 @@ use std::marker::Model;
 struct Years {
     given: u64,
     state: State,
-    // Of the most years that a ledger has, those of the years given first: a ledger is a plain value, which a host keeps and hands back.
+    // Of the most years that a ledger has, those of the years given first. An array and no `ArrayVec`: a ledger is a plain value (`Copy`), which a host
+    // keeps and hands back.
     figures: [Figures; 20],
 }
 
@@ -39,7 +42,7 @@ impl Model for Ledger {
     ghost Value = { Ledger };
 
     ghost use Rattle.reckoner.specs.Calls.{HandedBack};
-    ghost use Rattle.reckoner.specs.Parts.{ledger_with};
+    ghost use Rattle.reckoner.specs.Said.{ledger_with};
 
     ghost view = { λ ledger. ledger_with ledger.terms ledger.years };
 
@@ -48,7 +51,7 @@ impl Model for Ledger {
     ghost invariant = { λ ledger. HandedBack (ledger_with ledger.terms ledger.years) };
 }
 
-/// The ledger that a call hands back, and its answer.
+/// The ledger that a call hands back, and its answer: beside it and not in its place, for each step hands the ledger back, a refused one too.
 #[derive(Drop)]
 pub struct Step {
     pub ledger: Ledger,
@@ -95,12 +98,14 @@ impl Years {
         reader: &mut Reader<'a>,
     ) -> Result<(), Refusal>
         requires room { self.old.given + self.old.state.left ≤ 20 }
-        ensures { says (λ _. ledger_with terms.now self.new) result reader.new ≡ give_years plan.now count (ledger_with terms.now self.old) reader.old }
+        requires small_total { mag self.old.state.total.0 ≤ greatest_figure * self.old.given }
+        ensures { says (λ _. ledger_with terms.now self.new) result reader.new ≡ give_years plan.now.years count (ledger_with terms.now self.old) reader.old }
     {
         let mut tables = FactorTables::none();
         tables.take_terms(terms);
         for _ in 0..count {
             let advanced = reckoning::step(reader, plan, terms, &self.state, &tables)?;
+            // `as`: at most 20 years to a place. So in `write`.
             self.figures[self.given as usize] = advanced.figures;
             self.state = advanced.state;
             self.given += 1;
@@ -166,8 +171,9 @@ impl Ledger {
         let plan = Plan::read(plan)?;
         let mut reader = Reader::new(dossier);
         let Opened { terms, state } = opening::read_opening(&mut reader)?;
+        let count = state.left;
         let mut years = Years::none(state);
-        years.give(state.left, &terms, &plan, &mut reader)?;
+        years.give(count, &terms, &plan, &mut reader)?;
         years::read_end(&mut reader)?;
         Ok(Ledger { terms, years })
     }
@@ -241,9 +247,7 @@ impl Ledger {
         ensures small { result < 65_536 }
         ensures handed_back { HandedBack self }
     {
-        let given = self.years.given;
-        let state = self.years.state;
-        state.year - given
+        self.years.state.year - self.years.given
     }
 
     /// Opens a ledger with a whole dossier and gives it all its years, under the plan that is lent; an empty ledger where plan or dossier is refused.
@@ -254,6 +258,8 @@ impl Ledger {
         Step::of(Ledger::read(dossier, plan), Ledger::empty())
     }
 }
+
+// The dossier and the plan are two slices in every call, as a host in C lends them.
 
 /// The whole reckoning of a dossier, under a plan or none, with a list of period ends or none. Where it is accepted, the report stands in the buffer, and
 /// after it the tonnes issued at each end.

@@ -1,1 +1,2 @@
+pub mod AdvanceLaws
 pub mod StepLaws

@@ -1,10 +1,7 @@
 -- A step in terms of the year that was read.
 -- Assumes nothing.
-use mathlib.Core.Path.{◌≡◌, refl, ◌∙◌, ap}
-use mathlib.Core.Bool.{Bool, true, false}
+use Rattle.std.proofs.Common.{◌≡◌, ℕ, ◌<◌, Bool, true, false, List, refl, ap, ◌∙◌, arith}
 use mathlib.Core.Option.{Option}
-use mathlib.Core.List.{List}
-use Prim.Native.Nat.{ℕ, ◌<◌}
 use Rattle.arithmetic.proofs.SumLaws.{sum2_cong}
 use Rattle.classes.specs.Classes.{classes, emission_factor}
 use Rattle.classes.specs.Matrix.{entry, table_of}
@@ -17,10 +14,10 @@ use Rattle.figures.specs.Year.{Year}
 use Rattle.figures.specs.Figures.{monitored_carbon, counted_factor}
 use Rattle.figures.specs.Reckoning.{region_reference, table_emissions, year_figures, after_year}
 use Rattle.dossier.specs.Reader.{Judged, refused, accepted, after, ◌>>◌, give, holds, followed}
-use Rattle.dossier.specs.Causes.{planned_year_wrong}
 use Rattle.dossier.specs.Plan.{Plan, records_for}
+use Rattle.dossier.specs.Causes.{planned_year_wrong}
+use Rattle.dossier.specs.Judging.{year, allowed}
 use Rattle.dossier.specs.Records.{figures_for}
-use Rattle.dossier.specs.Judging.{year_left, allowed, year}
 use Rattle.years.specs.Answers.{Summary, summary, summarized_year}
 use Rattle.reckoning.specs.declared.Advanced.{Advanced}
 use Rattle.reckoning.specs.Step.{advanced_figures, carbon_advanced, summary_advanced, stepped_year}
@@ -64,7 +61,7 @@ module _ (t : Terms) (factors counted : List ℕ) (ef : factors ≡ table_of (em
     unfolding carbon_advanced year_advanced after_year
     advanced_same = rw figures-same
 
-  -- the figures of a planned year judged, with what it makes, or with the year itself
+  -- what a year makes of the state goes by its own figures, whether it is refused for them or not
   made : (plan : Option Plan) (state : State) (b : Bool) (y : Year) (v : List ℕ)
       → after (holds planned_year_wrong b v) (λ _. give (year_advanced t y state)) ≡ after (after (holds planned_year_wrong b v) (λ _. give y)) (λ y. give (year_advanced t y state))
   unfolding holds give
@@ -89,5 +86,5 @@ module _ (t : Terms) (factors counted : List ℕ) (ef : factors ≡ table_of (em
   pub step_is : (plan : Option Plan) (state : State) (u : List ℕ)
       → stepped_year (entry factors) (entry counted) t.matrix (records_for plan state.year) t.start.0 t.beltstart.0 state u
       ≡ after (year (record { terms = t; state = state; plan = plan }) u) (λ y. give (year_advanced t y state))
-  unfolding stepped_year summarized_year year give followed
-  step_is plan state u = joined plan state (year_left (records_for plan state.year) state.year state.left t.start.0 t.beltstart.0 u)
+  unfolding stepped_year summarized_year year give followed holds year_advanced
+  step_is plan state u = grind (arith, advanced_same)

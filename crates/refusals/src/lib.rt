@@ -29,7 +29,7 @@ pub enum Refusal {
     BufferTooShort = 10,
     /// A field of ST.
     StockOutOfRange = 11,
-    /// The bytes that are lent as a plan are none.
+    /// The bytes that are lent as a plan are not of its form.
     PlanNotOfForm = 12,
     /// The plan lacks the year, or its activity emissions are too great for planned quantities.
     PlannedYearWrong = 13,
@@ -47,6 +47,7 @@ impl Refusal {
     pub fn number(self) -> u8
         ensures { result ≡ number_of self }
     {
+        // `as`: of a cause to its number; a `From` of its own would say the numbers once more.
         self as u8
     }
 

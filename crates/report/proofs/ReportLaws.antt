@@ -1,12 +1,34 @@
 -- The numbers of a report: how many, where each stands, and that figure after figure they make the written buffer.
 -- Assumes nothing.
-use Rattle.std.proofs.Common.{◌≡◌, ℕ, ◌+◌, ◌*◌, ◌≤◌, ◌<◌, List, [], ◌∷◌, ◌++◌, ℤ, length, take, get_or, refl, ◌∙◌, arith}
+use Rattle.std.proofs.Common.{◌≡◌, ℕ, ◌+◌, ◌*◌, ◌≤◌, ◌<◌, List, [], ◌∷◌, ◌++◌, ℤ, length, take, get_or, refl, ◌∙◌, sym, arith}
 use Rattle.std.proofs.lemmas.List.{take_more, take_all, length-take-le}
 use Rattle.std.proofs.lemmas.List.Edits.{sets}
-use Rattle.wire.specs.Signed.{figures_bytes, written}
-use Rattle.wire.proofs.SignedLaws.{written-more}
+use Rattle.arithmetic.proofs.StoreLaws.{sets_append}
+use Rattle.wire.specs.Signed.{figure_bytes, figures_bytes, written}
+use Rattle.wire.proofs.SignedLaws.{length-figure, written-more}
 use Rattle.figures.specs.declared.Figures.{Figures}
 use Rattle.report.specs.Report.{eight, eights, closing}
+
+-- a list of figures is stored figure after figure
+pub stored_next : (z : ℤ) (rest : List ℤ) (s : List ℕ) (at next : ℕ) → at + 8 ≡ next
+    → sets s at (figures_bytes (z ∷ rest)) ≡ sets (sets s at (figure_bytes z)) next (figures_bytes rest)
+unfolding figures_bytes
+stored_next z rest s at next e = sets_append s at (figure_bytes z) (figures_bytes rest) ∙ rw (length-figure z, e)
+
+-- no figure is stored
+stored-none : (s : List ℕ) (at : ℕ) → sets s at (figures_bytes []) ≡ s
+unfolding figures_bytes
+stored-none s at = refl
+
+-- four figures stored one after the other
+pub stored_four : (a b c d : ℤ) (s : List ℕ) (at : ℕ)
+    → sets (sets (sets (sets s at (figure_bytes a)) (at + 8) (figure_bytes b)) (at + 16) (figure_bytes c)) (at + 24) (figure_bytes d) ≡ sets s at (figures_bytes (a ∷ b ∷ c ∷ d ∷ []))
+stored_four a b c d s at =
+    sym (stored_next a (b ∷ c ∷ d ∷ []) s at (at + 8) refl
+    ∙ stored_next b (c ∷ d ∷ []) _ (at + 8) (at + 16) (omega arith)
+    ∙ stored_next c (d ∷ []) _ (at + 16) (at + 24) (omega arith)
+    ∙ stored_next d [] _ (at + 24) (at + 32) (omega arith)
+    ∙ stored-none _ (at + 32))
 
 -- eight numbers a year
 length-eights : (figures : List Figures) → length (eights figures) ≡ 8 * length figures

@@ -31,6 +31,7 @@ fn closing(total: Grams, project: AreaUnits, belt: AreaUnits) -> [i64; 4]
     requires belt_is_signed { belt.0 < 2 ^ 63 }
     ensures { result ≡ closing total.0 project.0 belt.0 }
 {
+    // `as`: tonnes are proved to fit, and the balances are asked to.
     let tonnes = figures::tonnes(total) as i64;
     [total.0, tonnes, project.0 as i64, belt.0 as i64]
 }

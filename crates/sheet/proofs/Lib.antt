@@ -1,3 +1,5 @@
+pub mod DecimalLaws
+pub mod LengthLaws
 pub mod Examples
 pub mod SheetLaws
 pub mod Rulesets

@@ -22,7 +22,10 @@ fn figure_at(report: &[u8], at: usize) -> i64
     wire::field64(report, at).cast_signed()
 }
 
-// Each of these appends a text, and asks for room for the longest of its kind. `k` figures of a report from a place on, each after a space.
+// Each of these appends a text, and asks for room for the longest of its kind. The report stays whole and its place beside it: the layout of a
+// report says each figure by its place, and a part would be cut at each call and its place be said again in the contract.
+
+// `k` figures of a report from a place on, each after a space.
 #[tactic(auto, using(crate::proofs::Rulesets::figures), unfolding(crate::specs::Sheet::spaced))]
 fn push_figures(text: &mut Text, k: usize, report: &[u8], from: usize)
     requires inside { from + 8 * k ≤ length report.now }
@@ -84,12 +87,16 @@ pub fn sheet_of(first: u16, years: u64, report: &[u8; 1312]) -> Text
     text.push_str(
         "year reference project activity belt belt-reference displaced reduction credited\n",
     );
+    // `as`, here and below: at most 20 years to a place.
     for i in 0..years {
         push_year(&mut text, u64::from(first) + i, report, 64 * i as usize);
     }
     push_totals(&mut text, report, 64 * years as usize);
     text
 }
+
+// A refusal and an answer stand here by their numbers, since a sheet is made from what crosses to C alone. Text is pushed and not written by `write!`, which
+// could not be shown never to fail.
 
 /// The line of a refusal, which has its number.
 #[tactic(auto, unfolding(crate::specs::Sheet::refusal_of))]

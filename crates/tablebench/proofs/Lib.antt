@@ -1,1 +1,2 @@
 pub mod EntriesLaws
+pub mod SaidLaws

@@ -8,7 +8,10 @@ ghost use Rattle.projection.specs.Ranges.{SmallArea};
 ghost use Rattle.tablebench.specs.Said.{carbon_said, both_tables};
 
 use classes::Factors;
+use tables::Weighing;
 use units::AreaUnits;
+
+// One call for each reader, since C calls both by name.
 
 /// The carbon of CP and CD from a place, both of this total, by the reader of the product; 0 where one is refused. bench/tables.c sees to the
 /// ranges.
@@ -20,7 +23,11 @@ pub extern "C" fn tables_by_rows(s: &[u8], at: usize, total: u64, factors: &[u64
     ensures { result ≡ carbon_said (both_tables (entry factors.now) total (drop at s.now)) }
 {
     let factors = Factors { entries: *factors };
-    tablebench::tables_by_rows(&s[at..], AreaUnits(total), &factors)
+    let weighing = Weighing {
+        total: AreaUnits(total),
+        factors: &factors,
+    };
+    tablebench::tables_by_rows(&s[at..], &weighing)
 }
 
 /// The same by the reader before it.
@@ -32,5 +39,9 @@ pub extern "C" fn tables_by_entries(s: &[u8], at: usize, total: u64, factors: &[
     ensures { result ≡ carbon_said (both_tables (entry factors.now) total (drop at s.now)) }
 {
     let factors = Factors { entries: *factors };
-    tablebench::tables_by_entries(&s[at..], AreaUnits(total), &factors)
+    let weighing = Weighing {
+        total: AreaUnits(total),
+        factors: &factors,
+    };
+    tablebench::tables_by_entries(&s[at..], &weighing)
 }

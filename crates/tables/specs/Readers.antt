@@ -1,5 +1,5 @@
 -- The two readers of conversion tables are one: "for any 1,152 bytes and any total up to 10^12 that a table is refused 7 exactly where it was, entries whose
--- 64-bit sum would wrap to the total included, and otherwise gives the same 144 entries". The reader since is `tables::read_table`; the one before is
+-- 64-bit sum would wrap to the total included, and otherwise gives the same 144 entries". The reader since is `Weighing::read_table` of `tables`; the one before is
 -- `tablebench`'s by entries.
 -- To be believed. Assumes nothing.
 use Rattle.std.specs.Prelude.{ℕ, suc, ◌+◌, ◌*◌, ◌^◌, ◌≤◌, ◌<◌, ◌≡◌, cond, ◌↔◌, List, ◌++◌, eqb, length, drop, get_or, Result, Ok, Err, IsOk, IfOk}

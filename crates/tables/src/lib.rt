@@ -12,7 +12,7 @@ ghost use Rattle.cursor.specs.Says.{says};
 ghost use Rattle.tables.specs.Answers.{monitored_table};
 ghost use Rattle.tables.specs.Rows.{row_of};
 
-use classes::Factors;
+use classes::{Factors, place};
 use cursor::Reader;
 use refusals::Refusal;
 use units::{AreaUnits, CarbonUnits};
@@ -32,67 +32,66 @@ struct Row {
     carbon: CarbonUnits,
 }
 
-/// The area and the carbon of the row of class `from`, where none of its conversions is above the total: each is tested by itself.
-fn weighed(row: &[[u8; 8]; 12], total: AreaUnits, factors: &Factors, from: usize) -> Option<Row>
-    requires class { from < 12 }
-    requires small_total { SmallArea total.0 }
-    ensures value { SomeIff result (All (λ conversion. number conversion ≤ total.0) row.now) (row_of row.now factors.now from) }
-    ensures small { IfSome result (λ row. row.carbon.0 ≤ row.area.0 * greatest_stock) }
-{
-    let mut sum = AreaUnits(0);
-    let mut carbon = CarbonUnits(0);
-    for (to, conversion) in row.iter().enumerate() {
-        let area = area_of(conversion);
-        if total < area {
-            return None;
-        }
-        sum += area;
-        carbon += area * factors.entries[12 * from + to];
-    }
-    Some(Row { area: sum, carbon })
+/// What a table of conversions is weighed by: the total that its areas have to come to, at most 10^12 area units, and the emission factors.
+#[derive(Clone, Copy)]
+pub struct Weighing<'a> {
+    pub total: AreaUnits,
+    pub factors: &'a Factors,
+    ghost small: { SmallArea total.0 },
 }
 
-/// The carbon that a table's conversions set free by these factors, if their areas come to the total. Their sum is tested once a row,
-/// against what the rows before it leave of the total.
-fn carbon_of(
-    conversions: &[[u8; 8]; 144],
-    total: AreaUnits,
-    factors: &Factors,
-) -> Option<CarbonUnits>
-    requires small_total { SmallArea total.0 }
-    ensures value { SomeIff result (sum_of (map number conversions.now) ≡ total.0) (record { 0 = monitored_carbon (entry factors.now) (map number conversions.now) }) }
-    ensures small { IfSome result (λ carbon. SmallCarbon carbon.0) }
-{
-    let mut left = total;
-    let mut carbon = CarbonUnits(0);
-    let (rows, _) = conversions.as_chunks::<12>();
-    for (from, row) in rows.iter().enumerate() {
-        let sum = weighed(row, total, factors, from)?;
-        if left < sum.area {
+impl<'a> Weighing<'a> {
+    /// The area and the carbon of the row of class `from`, where none of its conversions is above the total: each is tested by itself.
+    fn row(&self, row: &[[u8; 8]; 12], from: usize) -> Option<Row>
+        requires class { from < 12 }
+        ensures value { SomeIff result (All (λ conversion. number conversion ≤ self.now.total.0) row.now) (row_of row.now self.now.factors.now from) }
+        ensures small { IfSome result (λ row. row.carbon.0 ≤ row.area.0 * greatest_stock) }
+    {
+        let Weighing { total, factors } = *self;
+        let mut sum = AreaUnits(0);
+        let mut carbon = CarbonUnits(0);
+        for (to, conversion) in row.iter().enumerate() {
+            let area = area_of(conversion);
+            if total < area {
+                return None;
+            }
+            sum += area;
+            carbon += area * factors.entries[place(from, to)];
+        }
+        Some(Row { area: sum, carbon })
+    }
+
+    /// The carbon that a table's conversions set free, if their areas come to the total. Their sum is tested once a row, against what the rows
+    /// before it leave of the total.
+    fn carbon_of(&self, conversions: &[[u8; 8]; 144]) -> Option<CarbonUnits>
+        ensures value { SomeIff result (sum_of (map number conversions.now) ≡ self.now.total.0) (record { 0 = monitored_carbon (entry self.now.factors.now) (map number conversions.now) }) }
+        ensures small { IfSome result (λ carbon. SmallCarbon carbon.0) }
+    {
+        let mut left = self.total;
+        let mut carbon = CarbonUnits(0);
+        let (rows, _) = conversions.as_chunks::<12>();
+        for (from, row) in rows.iter().enumerate() {
+            let sum = self.row(row, from)?;
+            if left < sum.area {
+                return None;
+            }
+            left = left - sum.area;
+            carbon += sum.carbon;
+        }
+        if left != AreaUnits(0) {
             return None;
         }
-        left = left - sum.area;
-        carbon += sum.carbon;
+        Some(carbon)
     }
-    if left != AreaUnits(0) {
-        return None;
-    }
-    Some(carbon)
-}
 
-/// The carbon of CP or CD, weighed by these factors. Where its conversions do not come to the total, it is refused with
-/// `ConversionTotalWrong`.
-#[tactic(auto, unfolding(crate::specs::Answers::monitored_table, dossier::specs::JudgingRecords::conversions, dossier::specs::Reader::followed, dossier::specs::Reader::fields, dossier::specs::Reader::equal, dossier::specs::Reader::give))]
-pub fn read_table(
-    reader: &mut Reader,
-    mark: u16,
-    total: AreaUnits,
-    factors: &Factors,
-) -> Result<CarbonUnits, Refusal>
-    requires small_total { SmallArea total.0 }
-    ensures value { says (λ carbon. carbon) result reader.new ≡ monitored_table (entry factors.now) mark total.0 reader.old }
-    ensures small { IfOk result (λ carbon. SmallCarbon carbon.0) }
-{
-    reader.begin(mark, 1152)?;
-    carbon_of(reader.fields(), total, factors).ok_or(Refusal::ConversionTotalWrong)
+    /// The carbon of CP or CD. Where its conversions do not come to the total, it is refused with `ConversionTotalWrong`.
+    #[tactic(auto, unfolding(crate::specs::Answers::monitored_table, dossier::specs::JudgingRecords::conversions, dossier::specs::Reader::followed, dossier::specs::Reader::fields, dossier::specs::Reader::equal, dossier::specs::Reader::give))]
+    pub fn read_table(&self, reader: &mut Reader, mark: u16) -> Result<CarbonUnits, Refusal>
+        ensures value { says (λ carbon. carbon) result reader.new ≡ monitored_table (entry self.now.factors.now) mark self.now.total.0 reader.old }
+        ensures small { IfOk result (λ carbon. SmallCarbon carbon.0) }
+    {
+        reader.begin(mark, 1152)?;
+        self.carbon_of(reader.fields())
+            .ok_or(Refusal::ConversionTotalWrong)
+    }
 }

@@ -8,6 +8,8 @@ ghost use Rattle.units.specs.Units.{total_area, total_carbon};
 use std::iter::Sum;
 use std::ops::{Add, AddAssign, Mul, Sub};
 
+// The operators stand for each unit by themselves: a trait is implemented type by type, and each unit is a struct of its own, so that no sum takes two.
+
 /// An area, in millionths of a hectare.
 #[derive(Clone, Copy, Debug, PartialEq, Eq, PartialOrd, Ord)]
 pub struct AreaUnits(pub u64);

@@ -6,34 +6,44 @@
 //! every whole 64-bit number of the buffer follows, those beyond the report too.
 #![tactic(auto)]
 
-ghost use Rattle.std.specs.Prelude.{◌≤◌, IfOk, IfSome};
+ghost use Rattle.std.specs.Prelude.{◌≤◌, length, IfOk, IfSome};
 
 use console::FILLING;
-use std::alloc::Global;
 use std::io;
 use std::io::{Read, Write};
 
-/// A vector of the list: its label, dossier, plan and period ends, and how many bytes a buffer is lent.
+/// What the parts of a vector are read into.
 #[derive(Drop)]
-struct Vector {
-    label: Vec<u8>,
-    dossier: Vec<u8>,
-    plan: Vec<u8>,
-    ends: Vec<u16>,
+struct Space {
+    label: [u8; 100],
+    dossier: [u8; 65_536],
+    plan: [u8; 65_536],
+    ends: [u16; 64],
+}
+
+/// A vector of the list: its label, dossier, plan and period ends, and how many bytes a buffer is lent.
+#[derive(Clone, Copy)]
+struct Vector<'a> {
+    label: &'a [u8],
+    dossier: &'a [u8],
+    plan: &'a [u8],
+    ends: &'a [u16],
     room: usize,
+    ghost short: { length label.now ≤ 100 },
     ghost fits: { room ≤ 1472 },
 }
 
-impl Vector {
+impl Vector<'_> {
     /// Prints the line of the vector, and another one where a refusal changed the buffer.
-    fn try_on<W: Write>(&self, alloc: Global, output: &mut W) -> io::Result<()> {
-        let mut report = vec![in alloc; FILLING; self.room]?;
-        match reckoner::reckon(&self.dossier, &self.plan, &self.ends, &mut report) {
+    fn try_on<W: Write>(&self, output: &mut W) -> io::Result<()> {
+        let mut report = [FILLING; 1472];
+        let answer = reckoner::reckon(self.dossier, self.plan, self.ends, &mut report[..self.room]);
+        match answer {
             Ok(()) => {
-                console::print_call(output, &self.label, 0, &report)?;
+                console::print_call(output, self.label, 0, &report[..self.room])?;
             }
             Err(refusal) => {
-                console::print_call(output, &self.label, refusal.number(), b"")?;
+                console::print_call(output, self.label, refusal.number(), b"")?;
                 if !console::is_filled(&report, 0) {
                     output.write_all(b"a refusal that changed the buffer\n")?;
                 }
@@ -50,41 +60,49 @@ fn read_length<R: Read>(input: &mut R, most: usize) -> io::Result<Option<usize>>
     Ok(console::read_length(input)?.filter(|length| *length <= most))
 }
 
-/// The next bytes of the input, after their length, or `None` where they are cut or more than the most.
-fn read_part<R: Read>(alloc: Global, input: &mut R, most: usize) -> io::Result<Option<Vec<u8>>> {
-    match read_length(input, most)? {
-        Some(length) => console::read_piece(alloc, input, length),
+/// The next bytes of the input, after their length, at the front of a space, or `None` where they are cut or the space is shorter.
+fn read_part<'a, R: Read>(input: &mut R, space: &'a mut [u8]) -> io::Result<Option<&'a [u8]>>
+    ensures { IfOk result (λ read. IfSome read (λ part. length part.now ≤ length space.old)) }
+{
+    match read_length(input, space.len())? {
+        Some(length) => console::read_piece(input, &mut space[..length]),
         None => Ok(None),
     }
 }
 
 /// The next period ends of the input, after their number, or `None` where they are cut or more than 64.
-fn read_ends<R: Read>(alloc: Global, input: &mut R) -> io::Result<Option<Vec<u16>>> {
-    let Some(count) = read_length(input, 64)? else {
+fn read_ends<'a, R: Read>(input: &mut R, ends: &'a mut [u16; 64]) -> io::Result<Option<&'a [u16]>> {
+    let Some(count) = read_length(input, ends.len())? else {
         return Ok(None);
     };
-    let Some(years) = console::read_piece(alloc, input, 2 * count)? else {
+    let mut space = [0u8; 128];
+    let Some(years) = console::read_piece(input, &mut space[..2 * count])? else {
         return Ok(None);
     };
-    let mut ends = Vec::new(alloc);
-    for year in years.as_chunks::<2>().0 {
-        ends.push(u16::from_be_bytes(*year))?;
+    for (end, year) in ends.iter_mut().zip(years.as_chunks::<2>().0) {
+        *end = u16::from_be_bytes(*year);
     }
-    Ok(Some(ends))
+    Ok(Some(&ends[..count]))
 }
 
 /// The next vector of the list, or `None` where the list has ended.
-fn read_vector<R: Read>(alloc: Global, input: &mut R) -> io::Result<Option<Vector>> {
-    let Some(label) = read_part(alloc, input, 100)? else {
+fn read_vector<'a, R: Read>(input: &mut R, space: &'a mut Space) -> io::Result<Option<Vector<'a>>> {
+    let Space {
+        label,
+        dossier,
+        plan,
+        ends,
+    } = space;
+    let Some(label) = read_part(input, label)? else {
         return Ok(None);
     };
-    let Some(dossier) = read_part(alloc, input, 65_536)? else {
+    let Some(dossier) = read_part(input, dossier)? else {
         return Ok(None);
     };
-    let Some(plan) = read_part(alloc, input, 65_536)? else {
+    let Some(plan) = read_part(input, plan)? else {
         return Ok(None);
     };
-    let Some(ends) = read_ends(alloc, input)? else {
+    let Some(ends) = read_ends(input, ends)? else {
         return Ok(None);
     };
     let Some(room) = read_length(input, 1472)? else {
@@ -100,16 +118,23 @@ fn read_vector<R: Read>(alloc: Global, input: &mut R) -> io::Result<Option<Vecto
 }
 
 /// Tries the vectors of the input.
-fn run<R: Read, W: Write>(alloc: Global, input: &mut R, output: &mut W) -> io::Result<()> {
+fn run<R: Read, W: Write>(input: &mut R, output: &mut W) -> io::Result<()> {
+    let mut space = Space {
+        label: [0; 100],
+        dossier: [0; 65_536],
+        plan: [0; 65_536],
+        ends: [0; 64],
+    };
+    // To the end of the input: a loop needs a bound, and no input has as many vectors.
     for _ in 0..u64::MAX {
-        let Some(vector) = read_vector(alloc, input)? else {
+        let Some(vector) = read_vector(input, &mut space)? else {
             break;
         };
-        vector.try_on(alloc, output)?;
+        vector.try_on(output)?;
     }
     Ok(())
 }
 
 fn main(rt: HostRuntime) -> io::Result<()> {
-    run(rt.alloc(), &mut rt.reader(), &mut io::writer(&rt))
+    run(&mut rt.reader(), &mut io::writer(&rt))
 }

@@ -1,14 +1,9 @@
 -- Big-endian numbers and their bytes: each determines the other.
 -- Assumes nothing.
-use Prim.Native.Nat.{ℕ, zero, suc, ◌+◌, ◌*◌, ◌^◌, ◌/◌, ◌%◌, ◌<◌, ◌≤◌}
-use mathlib.Core.Path.{◌≡◌, refl, ◌∙◌, ap, sym}
-use mathlib.Core.List.{List, [], ◌∷◌, ◌++◌, append_assoc}
-use native.Mathlib.Nat.{pow-suc, add-zero, zero-mul, mul_comm, mul_assoc, mul-le-mul_right, mod-lt, mod-eq_of_lt, div-eq_of_lt}
-use native.Mathlib.Nat.{div-lt_iff_lt-mul, div-add-mod', mul-add-div_right, mul-add-mod_self_right}
-use native.Mathlib.Omega.{arith}
-use lib.Dec.{lit<}
-use lib.ListN.{length, take, drop, get_or, length-append, length-drop, take-append-drop}
-use lib.Seq.{get_or-drop, get_or-append-add, length-take-le, take_at, drop_at, drop-drop}
+use Rattle.std.proofs.Common.{ℕ, zero, suc, ◌+◌, ◌*◌, ◌^◌, ◌/◌, ◌%◌, ◌<◌, ◌≤◌, ◌≡◌, refl, ◌∙◌, ap, sym, List, [], ◌∷◌, ◌++◌, append_assoc, pow-suc, add-zero, zero-mul}
+use Rattle.std.proofs.Common.{mul_comm, mul_assoc, mul-le-mul_right, mod-lt, mod-eq_of_lt, div-lt_iff_lt-mul, div-add-mod', arith, lit<, length, take, drop, get_or}
+use Rattle.std.proofs.Common.{length-append, length-drop, take-append-drop, get_or-drop, get_or-append-add, length-take-le, take_at, drop_at, drop-drop}
+use native.Mathlib.Nat.{div-eq_of_lt, mul-add-div_right, mul-add-mod_self_right}
 use Rattle.wire.specs.Bytes.{Bytes, number, bytes, numbers, bytes_of_each, total, field_at}
 
 -- ---- bytes
@@ -54,20 +49,13 @@ number_lt (b ∷ s) h =
 pub bytes_shift : (w k n : ℕ) → bytes w (k * 256 ^ w + n) ≡ bytes w n
 unfolding bytes
 bytes_shift zero k n = refl
-bytes_shift (suc w) k n =
-    let e : k * 256 ^ suc w ≡ k * 256 * 256 ^ w = rw (pow-suc, mul_comm (256 ^ w) 256, mul_assoc) in
-    let q : (k * 256 * 256 ^ w + n) / 256 ^ w ≡ k * 256 + n / 256 ^ w = mul-add-div_right (power w) (k * 256) n in
-    rw (e, q, mul-add-mod_self_right k 256 (n / 256 ^ w), bytes_shift w (k * 256) n)
+bytes_shift (suc w) k n = grind (arith, mul_comm, mul_assoc, mul-add-div_right, power, mul-add-mod_self_right, bytes_shift w (k * 256) n)
 
 pub number-bytes : (w n : ℕ) → n < 256 ^ w → number (bytes w n) ≡ n
 unfolding number bytes
 number-bytes zero n h = omega arith
 number-bytes (suc w) n h =
-    let k : n < 256 * 256 ^ w = rw (pow-suc, mul_comm (256 ^ w) 256) at h in
-    let q : n / 256 ^ w % 256 ≡ n / 256 ^ w = mod-eq_of_lt ((div-lt_iff_lt-mul (power w)).1 k) in
-    let d = div-add-mod' n (256 ^ w) in
-    let r : bytes w n ≡ bytes w (n % 256 ^ w) = ap (bytes w) (sym d) ∙ bytes_shift w (n / 256 ^ w) (n % 256 ^ w) in
-    rw (q, length-bytes w n, r, number-bytes w (n % 256 ^ w) (mod-lt n (power w))) d
+    grind (arith, mod-eq_of_lt, div-lt_iff_lt-mul, power, div-add-mod', bytes_shift, length-bytes, number-bytes w (n % 256 ^ w) (mod-lt n (power w)))
 
 pub bytes-number : (s : List ℕ) → Bytes s → bytes (length s) (number s) ≡ s
 unfolding number bytes
@@ -121,15 +109,12 @@ pub get_or-numbers : (k w : ℕ) (u : List ℕ) (j : ℕ) → j < k → get_or (
 unfolding numbers field_at
 get_or-numbers zero w u j h = absurd (omega arith)
 get_or-numbers (suc k) w u zero h = rw zero-mul
-get_or-numbers (suc k) w u (suc j) h =
-    let e : suc j * w ≡ w + j * w = omega arith in
-    get_or-numbers k w (drop w u) j (omega arith) ∙ rw (e, ← drop-drop)
+get_or-numbers (suc k) w u (suc j) h = grind (arith, drop-drop, get_or-numbers k w (drop w u) j (omega arith))
 
 pub numbers-each : (w : ℕ) (xs t : List ℕ) → Below (256 ^ w) xs → numbers (length xs) w (bytes_of_each w xs ++ t) ≡ xs
 unfolding numbers bytes_of_each
 numbers-each w [] t h = refl
-numbers-each w (x ∷ xs) t h =
-    rw append_assoc (rw (take-bytes w x (bytes_of_each w xs ++ t) h.0, drop-bytes w x (bytes_of_each w xs ++ t), numbers-each w xs t h.1))
+numbers-each w (x ∷ xs) t h = grind (arith, append_assoc, take-bytes, drop-bytes, numbers-each w xs t h.1)
 
 pub split_each : (k w : ℕ) (s : List ℕ) → Bytes s → k * w ≤ length s → s ≡ bytes_of_each w (numbers k w s) ++ drop (k * w) s
 unfolding numbers bytes_of_each

@@ -20,10 +20,6 @@ first_of_sum : (f : ℕ → ℕ) (k : ℕ) → sum_through f (suc k) ≡ f 0 + s
 first_of_sum f zero = refl
 first_of_sum f (suc k) = omega (arith, first_of_sum f k)
 
-worth : (k b : ℕ) → byte_worth k b ≡ b * 256 ^ k
-worth zero b = omega arith
-worth (suc k) b = refl
-
 worths : (b : ℕ) (s : List ℕ) → sum_through (λ i. byte_worth (length s - i) (get_or (b ∷ s) i 0)) (length s) ≡ number (b ∷ s)
 unfolding number
 worths b [] = omega arith

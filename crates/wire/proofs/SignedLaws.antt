@@ -1,12 +1,11 @@
 -- Two's complement: that it is std's, and that the bytes of a figure say the figure.
 -- Assumes nothing.
-use Rattle.std.proofs.Common.{◌≡◌, ℕ, ◌+◌, ◌-◌, ◌*◌, ◌^◌, ◌≤◌, ◌<◌, List, [], ◌∷◌, ◌++◌, ℤ, pos, negsuc, length, take, drop, get_or, length-append, length-drop, append_assoc, refl, ◌∙◌, ap, sym, arith}
+use Rattle.std.proofs.Common.{◌≡◌, ℕ, ◌+◌, ◌-◌, ◌*◌, ◌^◌, ◌≤◌, ◌<◌, List, [], ◌∷◌, ◌++◌, ℤ, pos, negsuc, length, take, get_or, length-append, length-drop, append_assoc, refl, ◌∙◌, ap, sym, arith}
 use Rattle.std.specs.Int.Signed.{mag}
 use Rattle.std.specs.Int.{w64, cast_unsigned, to_be_bytes}
 use Rattle.std.proofs.Math.Seq.{length-sets, drop-append-add}
 use Rattle.std.proofs.lemmas.List.{take_at, drop_at, drop-drop, take_more, length-take-le, append-nil}
 use Rattle.std.proofs.lemmas.List.Edits.{sets, sets-eq}
-use borrow.Author.Tests.{lt-ltb, le-ltb}
 use borrow.Rule.Slice.PartMut.{put_mid}
 use Rattle.arithmetic.proofs.StoreLaws.{sets_append}
 use Rattle.wire.specs.Bytes.{bytes, field_at}
@@ -14,10 +13,17 @@ use Rattle.wire.specs.Signed.{twos_complement, figure_bytes, figures_bytes, writ
 use Rattle.wire.proofs.EndianLaws.{to_be_is_bytes}
 use Rattle.wire.proofs.BytesLaws.{length-bytes, take-bytes}
 
+pub twos_below : (z : ℤ) (n : ℕ) → z ≡ negsuc n → 18446744073709551615 - n ≡ twos_complement z
+unfolding twos_complement
+twos_below z n e = rw e (omega arith)
+
+pub twos_above : (z : ℤ) (n : ℕ) → z ≡ pos n → n ≡ twos_complement z
+unfolding twos_complement
+twos_above z n e = rw e refl
+
 twos_cast : (z : ℤ) → cast_unsigned w64 z ≡ twos_complement z
 unfolding twos_complement
-twos_cast (pos n) = refl
-twos_cast (negsuc n) = omega arith
+twos_cast z = grind arith
 
 -- what std makes of a figure are its bytes
 pub figure_to_be : (z : ℤ) → to_be_bytes w64 (cast_unsigned w64 z) ≡ figure_bytes z
@@ -26,13 +32,11 @@ figure_to_be z = to_be_is_bytes w64 (cast_unsigned w64 z) ∙ ap (bytes 8) (twos
 
 twos_lt : (z : ℤ) → mag z < 2 ^ 63 → twos_complement z < 256 ^ 8
 unfolding twos_complement
-twos_lt (pos n) h = omega arith
-twos_lt (negsuc n) h = omega arith
+twos_lt z h = grind arith
 
 signed_twos : (z : ℤ) → mag z < 2 ^ 63 → signed (twos_complement z) ≡ z
 unfolding twos_complement signed
-signed_twos (pos n) h = rw (lt-ltb n (2 ^ 63) h)
-signed_twos (negsuc n) h = rw (le-ltb (2 ^ 64 - (n + 1)) (2 ^ 63) (omega arith)) (ap negsuc (omega arith))
+signed_twos z h = grind arith
 
 pub length-figure : (z : ℤ) → length (figure_bytes z) ≡ 8
 unfolding figure_bytes
@@ -65,41 +69,25 @@ stored_one xs z s at next e = rw (append-nil (figure_bytes z)) at (stored_more x
 
 -- bytes put in the middle are stored there
 put_is_stored : (s bytes : List ℕ) (at n : ℕ) → length bytes ≡ n → at + n ≤ length s → put_mid at (at + n - at) s bytes ≡ sets s at bytes
-put_is_stored s bytes at n e fits =
-    let room : at + n - at ≡ length bytes = omega arith in
-    rw (room, drop-drop (length bytes) at s) (sym (sets-eq bytes s at (omega arith) ∙ append_assoc (take at s) bytes (drop (at + length bytes) s)))
+put_is_stored s bytes at n e fits = grind (arith, drop-drop, sets-eq, append_assoc)
 
 -- the figure at place k is stored after those before it
 pub stored_next : (figures : List ℤ) (k : ℕ) (s : List ℕ) (at : ℕ) → k < length figures → at + 8 * k + 8 ≤ length s
     → put_mid (at + 8 * k) (at + 8 * k + 8 - (at + 8 * k)) (sets s at (figures_bytes (take k figures))) (figure_bytes (get_or figures k (pos 0)))
     ≡ sets s at (figures_bytes (take (k + 1) figures))
-stored_next figures k s at h fits =
-    let before : length (take k figures) ≡ k = length-take-le k figures (omega arith) in
-    let done = sets s at (figures_bytes (take k figures)) in
-    let long : length done ≡ length s = length-sets s at (figures_bytes (take k figures)) in
-    put_is_stored done (figure_bytes (get_or figures k (pos 0))) (at + 8 * k) 8 (length-figure (get_or figures k (pos 0))) (omega arith)
-    ∙ rw (take_more figures k (pos 0) h) (stored_one (take k figures) (get_or figures k (pos 0)) s at (at + 8 * k) (omega arith))
+stored_next figures k s at h fits = grind (arith, length-take-le, length-sets, put_is_stored, length-figure, take_more, stored_one)
 
 -- the figure z that stands after the figures xs in a buffer
 pub written-figure : (xs : List ℤ) (z : ℤ) (ys : List ℤ) (buffer : List ℕ) (at : ℕ) → 8 * length xs ≡ at → mag z < 2 ^ 63 → figure_at (written (xs ++ (z ∷ ys)) buffer) at ≡ z
 unfolding written figures_bytes
-written-figure xs z ys buffer at e h =
-    let rest = drop (8 * length (xs ++ (z ∷ ys))) buffer in
-    rw (figures-append xs (z ∷ ys), append_assoc (figures_bytes xs) (figure_bytes z ++ figures_bytes ys) rest, append_assoc (figure_bytes z) (figures_bytes ys) rest)
-    (figure_back (figures_bytes xs) (figures_bytes ys ++ rest) z at (length-figures xs ∙ e) h)
+written-figure xs z ys buffer at e h = grind (arith, figures-append, append_assoc, figure_back, length-figures)
 
 -- more figures stored right after the written ones are written too
 pub written-more : (xs ys : List ℤ) (buffer : List ℕ) (at : ℕ) → 8 * length xs ≡ at → at + 8 * length ys ≤ length buffer
     → sets (written xs buffer) at (figures_bytes ys) ≡ written (xs ++ ys) buffer
 unfolding written
 written-more xs ys buffer at e h =
-    let s = figures_bytes xs in
-    let t = drop (8 * length xs) buffer in
-    let l : length s ≡ at = length-figures xs ∙ e in
-    let n : at + length (figures_bytes ys) ≤ length (s ++ t) = omega (arith, length-figures xs, length-figures ys, length-append s t, length-drop (8 * length xs) buffer) in
-    let k : 8 * length (xs ++ ys) ≡ 8 * length xs + 8 * length ys = ap (λ (n : ℕ). 8 * n) (length-append xs ys) ∙ omega arith in
-    let d : drop (at + length (figures_bytes ys)) (s ++ t) ≡ drop (8 * length ys) t = rw (← l, length-figures ys) (drop-append-add s t (8 * length ys)) in
-    sets-eq (figures_bytes ys) (s ++ t) at n ∙ rw (take_at s t at l, d, drop-drop, figures-append xs ys, k) (rw append_assoc)
+    grind (arith, length-figures, length-append {A = ℕ}, length-drop {A = ℕ}, drop-append-add, sets-eq, take_at, drop-drop, figures-append, append_assoc)
 
 -- nothing is written yet
 pub written_none : (buffer : List ℕ) → written [] buffer ≡ buffer

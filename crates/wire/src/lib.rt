@@ -1,4 +1,4 @@
-//! How numbers and bytes go together: big-endian fields read from a slice, and signed figures written into a lent buffer.
+//! How numbers and bytes go together: a big-endian field read from a slice, and signed figures written into a lent buffer.
 #![tactic(auto)]
 
 ghost use Rattle.std.specs.Prelude.{◌≡◌, ◌+◌, ◌*◌, ◌≤◌, length, take, drop};
@@ -6,22 +6,16 @@ ghost use Rattle.std.proofs.lemmas.List.Edits.{sets};
 ghost use Rattle.wire.specs.Bytes.{field_at};
 ghost use Rattle.wire.specs.Signed.{figure_bytes, figures_bytes};
 
-/// The `WIDTH` bytes from a place.
-fn bytes_at<const WIDTH: usize>(s: &[u8], at: usize) -> [u8; WIDTH]
-    requires { at + WIDTH ≤ length s.now }
-    ensures { result ≡ take WIDTH (drop at s.now) }
-{
-    let mut bytes = [0; WIDTH];
-    bytes.copy_from_slice(&s[at..at + WIDTH]);
-    bytes
-}
+// A place stands beside the slice, since what is written is said of the whole buffer: the bytes before it and after keep their content.
 
 /// The field of 64 bits at a place.
-pub fn field64(s: &[u8], at: usize) -> u64
-    requires { at + 8 ≤ length s.now }
-    ensures { result ≡ field_at 8 s.now at }
+pub fn field64(bytes: &[u8], at: usize) -> u64
+    requires { at + 8 ≤ length bytes.now }
+    ensures { result ≡ field_at 8 bytes.now at }
 {
-    u64::from_be_bytes(bytes_at(s, at))
+    let mut field = [0; 8];
+    field.copy_from_slice(&bytes[at..at + 8]);
+    u64::from_be_bytes(field)
 }
 
 /// Writes figures one after the other from a place on, eight bytes each.

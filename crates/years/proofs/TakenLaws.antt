@@ -32,8 +32,8 @@ module _ (from_plan : Option (List Activity)) (s : List ℕ) where
     taken_summed = let m = made-yes (taken from_plan s) _ sum rest e in rw (← m.judged) m.made
 
 -- where the plan lacks the year
-pub part_refused : (planned : Bool) (from_plan : Option (List Activity)) (own s : List ℕ) (refusal : Refusal) → stands (is mark_pl) s ≡ planned
-    → PartFor planned from_plan own (Err refusal) → refused (number_of refusal) ≡ summed_records from_plan s
+pub part_refused : (planned : Bool) (from_plan : Option (List Activity)) (plan own s : List ℕ) (refusal : Refusal) → stands (is mark_pl) s ≡ planned
+    → PartFor planned from_plan plan own (Err refusal) → refused (number_of refusal) ≡ summed_records from_plan s
 unfolding summed_records followed
-part_refused true from_plan own s refusal h p = rw (p.0, p.1, taken_missing s h) refl
-part_refused false from_plan own s refusal h p = absurd p
+part_refused true from_plan plan own s refusal h p = rw (p.0, p.1, taken_missing s h) refl
+part_refused false from_plan plan own s refusal h p = absurd p

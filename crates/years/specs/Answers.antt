@@ -32,11 +32,11 @@ summed_records from_plan = do
   give (emissions records)
 
 -- ---- the bytes that a year's activity records are read from: a part of the plan that has the year, where PL stands, otherwise what is left of the dossier
-abbrev pub PartFor : (planned : Bool) → Option (List Activity) → (own : List ℕ) → Result (Bor (List ℕ)) Refusal → Type 0
-PartFor true from_plan own (Ok part) = Finds from_plan (Some part)
-PartFor true from_plan own (Err refusal) = (number_of refusal ≡ planned_year_wrong) × (from_plan ≡ none)
-PartFor false from_plan own (Ok part) = part.now ≡ own
-PartFor false from_plan own (Err refusal) = ⊥
+abbrev pub PartFor : (planned : Bool) → Option (List Activity) → (plan own : List ℕ) → Result (Bor (List ℕ)) Refusal → Type 0
+PartFor true from_plan plan own (Ok part) = Finds from_plan plan (Some part)
+PartFor true from_plan plan own (Err refusal) = (number_of refusal ≡ planned_year_wrong) × (from_plan ≡ none)
+PartFor false from_plan plan own (Ok part) = part.now ≡ own
+PartFor false from_plan plan own (Err refusal) = ⊥
 
 -- ---- YR to the last activity record
 pub record Summary : Type 0 where

@@ -1,7 +1,7 @@
 //! A year of a dossier: YR, CP, CD, and its activity records or PL.
 #![tactic(auto)]
 
-ghost use Rattle.std.specs.Prelude.{◌≡◌, ◌≤◌, IfOk};
+ghost use Rattle.std.specs.Prelude.{◌≡◌, ◌≤◌, ◌<◌, IfOk};
 ghost use Rattle.std.specs.Int.Signed.{mag};
 ghost use Rattle.classes.specs.Matrix.{entry};
 ghost use Rattle.classes.specs.Ranges.{greatest_activity};
@@ -14,21 +14,13 @@ ghost use Rattle.years.specs.Answers.{PartFor, summed_records, summarized_year};
 
 use classes::Factors;
 use cursor::Reader;
+use cursor::marks::{CD, CP, EN, PL, YR};
 use figures::{State, Terms, YearDays};
 use plans::Plan;
 use refusals::Refusal;
 use std::marker::Model;
+use tables::Weighing;
 use units::{CarbonUnits, Grams};
-
-const YR: u16 = 0x5952;
-
-const CP: u16 = 0x4350;
-
-const CD: u16 = 0x4344;
-
-const PL: u16 = 0x504c;
-
-const EN: u16 = 0x454e;
 
 /// A year as it is filed: its days, the carbon of its conversions in the project area and the belt, and the grams of CO2 of its activity
 /// records, which are those of the plan where it is planned. The carbon and the grams are in the ranges in which figures fit 64 bits.
@@ -37,6 +29,7 @@ pub struct YearSummary {
     pub days: YearDays,
     pub project: CarbonUnits,
     pub belt: CarbonUnits,
+    // No answer, but what the rule for planned quantities asks of a year.
     pub planned: bool,
     pub activity: Grams,
 }
@@ -64,7 +57,7 @@ struct Emissions {
 /// dossier. Refused with `PlannedYearWrong` where the plan lacks the year.
 #[tactic(auto, using(crate::proofs::Rulesets::records))]
 fn records_part<'a>(reader: &Reader<'a>, plan: &Plan<'a>, year: u64) -> Result<&'a [u8], Refusal>
-    ensures { PartFor (mark_stands (is mark_pl) reader.now) (records_for plan.now year) reader.now result }
+    ensures { PartFor (mark_stands (is mark_pl) reader.now) (records_for plan.now.years year) plan.now.bytes reader.now result }
 {
     if reader.stands(PL) {
         plan.records_of(year).ok_or(Refusal::PlannedYearWrong)
@@ -80,7 +73,7 @@ fn read_records<'a>(
     plan: &Plan<'a>,
     year: u64,
 ) -> Result<Emissions, Refusal>
-    ensures value { says (λ emissions. emissions) result reader.new ≡ summed_records (records_for plan.now year) reader.old }
+    ensures value { says (λ emissions. emissions) result reader.new ≡ summed_records (records_for plan.now.years year) reader.old }
     ensures small { IfOk result (λ emissions. mag emissions.activity.0 ≤ greatest_activity) }
 {
     let part = records_part(reader, plan, year)?;
@@ -112,8 +105,9 @@ pub fn read_year<'a>(
     state: &State,
     counted: &Factors,
 ) -> Result<YearSummary, Refusal>
-    ensures value { says (λ summary. summary) result reader.new ≡ summarized_year (entry counted.now) (records_for plan.now state.now.year) state.now.year state.now.left terms.now.start.0 terms.now.beltstart.0 reader.old }
+    ensures value { says (λ summary. summary) result reader.new ≡ summarized_year (entry counted.now) (records_for plan.now.years state.now.year) state.now.year state.now.left terms.now.start.0 terms.now.beltstart.0 reader.old }
     ensures left { IfOk result (λ _. 1 ≤ state.now.left) }
+    ensures year { IfOk result (λ _. state.now.year < 65_536) }
 {
     reader.begin(YR, 4)?;
     if state.left == 0 {
@@ -128,8 +122,16 @@ pub fn read_year<'a>(
         operating,
         calendar,
     };
-    let project = tables::read_table(reader, CP, terms.start, counted)?;
-    let belt = tables::read_table(reader, CD, terms.beltstart, counted)?;
+    let project_table = Weighing {
+        total: terms.start,
+        factors: counted,
+    };
+    let belt_table = Weighing {
+        total: terms.beltstart,
+        factors: counted,
+    };
+    let project = project_table.read_table(reader, CP)?;
+    let belt = belt_table.read_table(reader, CD)?;
     let Emissions { planned, activity } = read_records(reader, plan, state.year)?;
     Ok(YearSummary {
         days,

@@ -7,15 +7,15 @@ ghost use Rattle.std.specs.Io.KnownBytes.{Appends};
 ghost use Rattle.wire.specs.Bytes.{Bytes};
 ghost use Rattle.printout.specs.Printout.{printout};
 
-use std::alloc::Global;
+use arrayvec::ArrayVec;
 use std::env::FillError;
 use std::io::{ErrorKind, Read, Write};
 use std::process::ExitCode;
 use std::rt::Env;
 use std::{fmt, io};
 
-/// No more of an input is read: a dossier is shorter.
-const LIMIT: u64 = 65_536;
+/// Room for the bytes that settle what is printed: a dossier is shorter.
+type Space = ArrayVec<u8, 65_536>;
 
 /// Why nothing, or not all, was printed.
 #[derive(Debug, Drop)]
@@ -52,24 +52,26 @@ impl<R: Read> Read for Patient<R> {
     }
 }
 
-/// The front of an input, as far as it settles what is printed.
-fn read_dossier<R: Read + Drop>(alloc: Global, input: R) -> io::Result<Vec<u8>>
-    ensures { IfOk result (λ dossier. IfSome (R.remaining input) (λ all. dossier.items ≡ take 65536 all)) }
+/// The front of an input, as far as it settles what is printed: what the space that is lent has room for.
+fn read_dossier<'a, R: Read + Drop>(input: R, space: &'a mut Space) -> io::Result<&'a [u8]>
+    ensures { IfOk result (λ dossier. IfSome (R.remaining input) (λ all. dossier.now ≡ take 65536 all)) }
 {
-    let mut dossier = Vec::new(alloc);
-    Patient { reader: input }
-        .take(LIMIT)
-        .read_to_end(&mut dossier)?;
-    Ok(dossier)
+    space.clear();
+    // `as`: a length to the number that `take` asks.
+    let room = space.capacity() as u64;
+    let mut front = Patient { reader: input }.take(room);
+    io::copy(&mut front, space)?;
+    Ok(space.as_slice())
 }
 
 /// Reads, and writes what is printed of the first 65,536 bytes, which is the printout of the whole input, and nothing else.
-fn run<R: Read + Drop, W: Write>(alloc: Global, input: R, output: &mut W) -> Result<(), Failure>
+fn run<R: Read + Drop, W: Write>(input: R, output: &mut W) -> Result<(), Failure>
     ensures front { OnOk result (IfSome (R.remaining input) (λ all. Appends (W.contents output.old) (W.contents output.new) (printout (take 65536 all)))) }
     ensures whole { OnOk result (IfSome (R.remaining input) (λ all. Bytes all → Appends (W.contents output.old) (W.contents output.new) (printout all))) }
 {
-    let dossier = read_dossier(alloc, input).map_err(Failure::Input)?;
-    let text = printout::printout_of(&dossier);
+    let mut space = Space::new();
+    let dossier = read_dossier(input, &mut space).map_err(Failure::Input)?;
+    let text = printout::printout_of(dossier);
     output.write_all(text.as_bytes()).map_err(Failure::Output)
 }
 
@@ -79,12 +81,12 @@ fn has_argument<R: Env>(rt: &R) -> bool {
     !matches!(rt.arg(1, &mut start), Err(FillError::NotPresent))
 }
 
-fn start<R: AllocGlobal + Env + Eprint + Input + Print>(rt: &R) -> Result<(), Failure> {
+fn start<R: Env + Eprint + Input + Print>(rt: &R) -> Result<(), Failure> {
     if has_argument(rt) {
         let _ = eprintln!(rt; "usage: yearsheet < DOSSIER");
         return Ok(());
     }
-    run(rt.alloc(), rt.reader(), &mut io::writer(rt))
+    run(rt.reader(), &mut io::writer(rt))
 }
 
 /// What is said of a failure, without the system's number for it, which the library puts after its words.

@@ -53,7 +53,7 @@ pub returns-in_err-within : goal.returns-in_err-within
 unfolding followed
 returns-in_err-within c =
     let e : c.loop-area.area-index ≡ 12 = omega arith in
-    let fails = rw (← c.in_err-within.ensures) at (totalled _ _ _ c.args.least c.in_ok-begin.ensures.value _ _ _ (rw e at c.loop-area.invariant)) in
+    let fails = rw (← c.in_err-within.ensures.value) at (totalled _ _ _ c.args.least c.in_ok-begin.ensures.value _ _ _ (rw e at c.loop-area.invariant)) in
     search (rules, fails)
 
 pub invariant_of-result : goal.invariant_of-result
@@ -69,4 +69,4 @@ pub returns : goal.returns
 unfolding followed give
 returns c =
     let e : c.loop-area.area-index ≡ 12 = omega arith in
-    rw (← c.in_ok-within.ensures) at (totalled _ _ _ c.args.least c.in_ok-begin.ensures.value _ _ _ (rw e at c.loop-area.invariant))
+    rw (← c.in_ok-within.ensures.value) at (totalled _ _ _ c.args.least c.in_ok-begin.ensures.value _ _ _ (rw e at c.loop-area.invariant))

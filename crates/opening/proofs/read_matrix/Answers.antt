@@ -46,7 +46,7 @@ loop-column-preserved c =
     record {
       bytes = k.bytes;
       begun = k.begun;
-      read = rw (← add_assoc, c.u32.ensures.rest) (next-read 144 4 _ _ _ _ k.read _ inside (c.from-probability.ensures ∙ c.u32.ensures.value));
+      read = rw (c.place.ensures, ← add_assoc, c.u32.ensures.rest) (next-read 144 4 _ _ _ _ k.read _ inside (c.from-probability.ensures ∙ c.u32.ensures.value));
       whole = k.whole;
       summed = rw sum-next (omega arith);
       most = omega arith;

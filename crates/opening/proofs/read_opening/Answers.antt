@@ -3,6 +3,3 @@ use Rattle.opening.proofs.read_opening.Goals as goal
 
 pub invariant_of-terms : goal.invariant_of-terms
 invariant_of-terms c = record { start = omega arith; beltstart = omega arith }
-
-pub invariant_of-state : goal.invariant_of-state
-invariant_of-state c = record { left = omega arith; year = omega arith; total = omega arith }

@@ -15,4 +15,4 @@ whole s rest due read ends =
     rw (← o.judged, ← ends) cc
 
 pub returns : goal.returns
-returns c = whole _ _ _ (rw c.new-reader.ensures at c.in_ok-opened.ensures) c.in_ok-end_of_piece.ensures
+returns c = whole _ _ _ (rw c.new-reader.ensures at c.in_ok-opened.ensures.value) c.in_ok-end_of_piece.ensures

@@ -48,11 +48,11 @@ pub returns-in_err-equal : goal.returns-in_err-equal
 unfolding followed
 returns-in_err-equal c =
     let e : c.loop-stock.stock-index ≡ 12 = omega arith in
-    let fails = rw (← c.in_err-equal.ensures) at (all_small _ _ c.in_ok-begin.ensures.value _ _ (rw e at c.loop-stock.invariant)) in
+    let fails = rw (← c.in_err-equal.ensures.value) at (all_small _ _ c.in_ok-begin.ensures.value _ _ (rw e at c.loop-stock.invariant)) in
     search (rules, fails)
 
 pub returns : goal.returns
 unfolding followed give
 returns c =
     let e : c.loop-stock.stock-index ≡ 12 = omega arith in
-    rw (← c.in_ok-equal.ensures) at (all_small _ _ c.in_ok-begin.ensures.value _ _ (rw e at c.loop-stock.invariant))
+    rw (← c.in_ok-equal.ensures.value) at (all_small _ _ c.in_ok-begin.ensures.value _ _ (rw e at c.loop-stock.invariant))

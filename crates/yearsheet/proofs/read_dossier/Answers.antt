@@ -3,5 +3,6 @@ use Rattle.yearsheet.proofs.read_dossier.Goals as goal
 
 pub returns : goal.returns
 returns g c =
-    taken (g.R.Read.remaining c.args.input) 65536 c.read_to_end.new.buf.items
-    (rw (c.take.ensures.limit, c.take.ensures.inner, c.new-dossier.ensures.items) at c.in_ok-read_to_end.ensures.bytes)
+    rw c.as_slice.ensures.value
+    (taken (g.R.Read.remaining c.args.input) 65536 c.copy.new.writer.items
+    (rw (c.take-front.ensures.limit, c.take-front.ensures.inner, c.capacity-room.ensures, c.clear.ensures) at c.in_ok-copy.ensures.bytes))

@@ -1,9 +1,9 @@
-use Rattle.std.proofs.Common.{◌∙◌}
-use Rattle.classes.specs.Classes.{emission_factor}
-use Rattle.figures.proofs.CountedLaws.{counted_table}
+use Rattle.classes.proofs.FactorLaws.{emission_are_factors}
+use Rattle.figures.proofs.CountedLaws.{counted_are_factors}
 use Rattle.figures.proofs.FactorTables.take_terms.Goals as goal
 
-pub returns-clause-monitored : goal.returns-clause-monitored
-returns-clause-monitored c =
-    let counted = rw c.take_stocks.ensures at c.count_factors.ensures in
-    rw (← c.terms.view_is) (counted ∙ counted_table c.terms.inside.option (emission_factor c.terms.inside.stocks))
+pub invariant_of-projected : goal.invariant_of-projected
+invariant_of-projected c = rw c.fill_factors.ensures.factors (emission_are_factors _ c.stocks.invariant)
+
+pub invariant_of-monitored : goal.invariant_of-monitored
+invariant_of-monitored c = rw c.fill_factors.ensures.counted (counted_are_factors _ _ c.stocks.invariant)

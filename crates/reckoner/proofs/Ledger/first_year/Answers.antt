@@ -1,9 +1,10 @@
 -- A ledger that the calls handed back has no more years than the year that is due.
-use mathlib.Core.Path.{ap}
 use native.Mathlib.Omega.{arith}
-use Rattle.figures.specs.declared.State.{State}
 use Rattle.reckoner.proofs.Invariant.{handed-kept}
 use Rattle.reckoner.proofs.Ledger.first_year.Goals as goal
 
 pub overflow_sub-result : goal.overflow_sub-result
-overflow_sub-result c = omega (arith, (handed-kept c.self.invariant).since, ap (λ (s : State). s.year) c.state.view_is)
+overflow_sub-result c = omega (arith, (handed-kept c.self.invariant).since)
+
+pub returns-clause-small : goal.returns-clause-small
+returns-clause-small c = omega (arith, (handed-kept c.self.invariant).years)

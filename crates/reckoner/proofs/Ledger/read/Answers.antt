@@ -3,7 +3,8 @@ use Rattle.std.proofs.Common.{◌≡◌, rules}
 use Rattle.dossier.specs.Reader.{accepted, give, followed}
 use Rattle.dossier.specs.JudgingPlan.{under}
 use Rattle.reckoner.specs.Ledger.{new_ledger}
-use Rattle.reckoner.specs.Parts.{ledger_with, given_dossier}
+use Rattle.reckoner.specs.Said.{ledger_with}
+use Rattle.reckoner.specs.Parts.{given_dossier}
 use Rattle.reckoner.proofs.CallLaws.{whole_handed}
 use Rattle.reckoner.proofs.Ledger.read.Goals as goal
 

@@ -3,13 +3,14 @@ use Rattle.std.proofs.Common.{◌≡◌, rules}
 use native.Mathlib.Omega.{arith}
 use Rattle.dossier.specs.Reader.{accepted, give, followed}
 use Rattle.dossier.specs.JudgingPlan.{under}
-use Rattle.reckoner.specs.Parts.{ledger_with, given_piece}
+use Rattle.reckoner.specs.Said.{ledger_with}
+use Rattle.reckoner.specs.Parts.{given_piece}
 use Rattle.reckoner.proofs.Invariant.{handed-kept}
 use Rattle.reckoner.proofs.CallLaws.{given_handed}
 use Rattle.reckoner.proofs.Ledger.with_piece.Goals as goal
 
 pub give-requires : goal.give-requires
-give-requires c = record { room = omega (arith, (handed-kept c.self.invariant).count) }
+give-requires c = let kept = handed-kept c.self.invariant in record { room = omega (arith, kept.count); small_total = omega (arith, kept.total) }
 
 pub invariant_of-result : goal.invariant_of-result
 unfolding under given_piece followed give

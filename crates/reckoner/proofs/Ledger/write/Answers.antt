@@ -1,5 +1,5 @@
 -- The report and the tonnes issued make up what is written.
-use Rattle.std.proofs.Common.{◌≡◌, ◌+◌, ◌*◌, true, take, sym, ◌∙◌, rules}
+use Rattle.std.proofs.Common.{◌≡◌, ◌+◌, ◌*◌, true, take, ap, sym, ◌∙◌, rules}
 use Rattle.std.proofs.lemmas.List.Edits.{sets}
 use native.Mathlib.Omega.{arith}
 use Rattle.wire.specs.Signed.{figures_bytes, written}
@@ -8,7 +8,7 @@ use Rattle.periods.specs.Periods.{ends_sound, credited_in, issued_tonnes}
 use Rattle.periods.proofs.EndsLaws.{sound-count}
 use Rattle.reckoner.specs.Ledger.{Ledger, first_year, report}
 use Rattle.reckoner.proofs.Invariant.{handed-kept}
-use Rattle.reckoner.proofs.CloseLaws.{periods-written}
+use Rattle.reckoner.proofs.CloseLaws.{years_given-small, periods-written}
 use Rattle.reckoner.proofs.Ledger.write.Goals as goal
 
 pub overflow_mul-ends : goal.overflow_mul-ends
@@ -16,6 +16,11 @@ overflow_mul-ends c = record { fits = omega (arith, sound-count _ _ _ (sym c.sou
 
 pub overflow_add-length-2 : goal.overflow_add-length-2
 overflow_add-length-2 c = record { fits = omega (arith, sound-count _ _ _ (sym c.sound.ensures ∙ c.if-not-sound.false), c.years-given.ensures.few) }
+
+pub write_issued-requires-clause-small_years : goal.write_issued-requires-clause-small_years
+write_issued-requires-clause-small_years c =
+    let figures = ap (λ (l : Ledger). l.figures) c.self.view_is in
+    rw (c.years-given.ensures.value, figures) (years_given-small c.args.self (handed-kept c.years-given.ensures.handed_back))
 
 pub returns-clause-buffer : goal.returns-clause-buffer
 unfolding report reported

@@ -13,7 +13,7 @@ returns-in_err-advanced c =
 pub loop-preserved : goal.loop-preserved
 loop-preserved c =
     let made = c.take_terms.ensures in
-    one_more_lem c.loop.invariant c.loop-test.true made.projected made.monitored c.in_ok-advanced.ensures.value c.in_ok-advanced.ensures.left
+    one_more_lem c.loop.invariant c.loop-test.true made.projected made.monitored c.in_ok-advanced.ensures.value c.in_ok-advanced.ensures.left c.in_ok-advanced.ensures.total
 
 pub returns : goal.returns
 returns c = all-given c.loop.invariant c.loop-test.false

@@ -1,6 +1,0 @@
-use Rattle.std.proofs.Common.{◌*◌}
-use Rattle.tables.proofs.TableLaws.{SoFar}
-use Rattle.tables.proofs.carbon_of.Given as goal
-
-abbrev pub invariant-loop-from : goal.invariant-loop-from
-invariant-loop-from l = SoFar l.conversions l.factors l.total.0 (12 * l.from) l.left.0 l.carbon.0
