@@ -56,6 +56,8 @@ impl Trace {
         }
     }
 
+    // `open` and `year` differ in the call that they make and in their word: one function of both would be handed the two, and be no plainer.
+
     fn open<W: Write>(&mut self, output: &mut W, piece: &[u8]) -> io::Result<()>
         ensures { self.new.plan ≡ self.old.plan }
     {
