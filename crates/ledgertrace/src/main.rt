@@ -9,7 +9,9 @@
 //! one, the line `buffer changed` follows.
 #![tactic(auto)]
 
-ghost use Rattle.std.specs.Prelude.{◌≡◌, ◌≤◌, length, IfOk, IfSome};
+ghost use Rattle.std.specs.Prelude.{◌≡◌, ◌≤◌, length, take, drop, IfOk, IfSome, OnOk};
+ghost use Rattle.std.specs.Io.KnownBytes.{Appends};
+ghost use Rattle.ledgertrace.specs.Closing.{closing_lines, closed_lines};
 ghost use Rattle.ledgertrace.specs.Plans.{Fits, plan_after};
 
 use arrayvec::ArrayVec;
@@ -38,6 +40,7 @@ struct Trace {
 fn print_closing<W: Write>(output: &mut W, number: u8, report: &[u8], end: usize) -> io::Result<()>
     requires inside { end ≤ length report.now }
     requires fits { end ≤ 1312 }
+    ensures { OnOk result (Appends (W.contents output.old) (W.contents output.new) (closing_lines number (take end report.now) (drop end report.now))) }
 {
     console::print_call(output, b"close", number, &report[..end])?;
     if !console::is_filled(report, end) {
@@ -87,7 +90,8 @@ impl Trace {
 
     #[tactic(auto, using(crate::proofs::Rulesets::reports))]
     fn close<W: Write>(&mut self, output: &mut W, report: &mut [u8]) -> io::Result<()>
-        ensures { self.new.plan ≡ self.old.plan }
+        ensures plan { self.new.plan ≡ self.old.plan }
+        ensures printed { OnOk result (Appends (W.contents output.old) (W.contents output.new) (closed_lines self.old.ledger report.old)) }
     {
         let Step { ledger, answer } = self.ledger.close(report);
         self.ledger = ledger;
@@ -126,10 +130,10 @@ fn read_call<'a, R: Read>(
 ) -> io::Result<Option<Call<'a>>>
     ensures { IfOk result (λ read. IfSome read Fits) }
 {
-    let Some(mark) = console::read_byte(input)? else {
-        return Ok(None);
-    };
-    let Some(length) = console::read_length(input)? else {
+    // Both are read before either is looked at.
+    let mark = console::read_byte(input)?;
+    let length = console::read_length(input)?;
+    let (Some(mark), Some(length)) = (mark, length) else {
         return Ok(None);
     };
     if mark == b'C' {

@@ -2,7 +2,7 @@
 //! An argument, and a read or a write that fails, is answered by a line on standard error.
 #![tactic(auto)]
 
-ghost use Rattle.std.specs.Prelude.{◌≡◌, take, IfOk, IfSome, OnOk};
+ghost use Rattle.std.specs.Prelude.{◌≡◌, ◌≤◌, length, take, IfOk, IfSome, OnOk};
 ghost use Rattle.std.specs.Io.KnownBytes.{Appends};
 ghost use Rattle.wire.specs.Bytes.{Bytes};
 ghost use Rattle.printout.specs.Printout.{printout};
@@ -54,7 +54,8 @@ impl<R: Read> Read for Patient<R> {
 
 /// The front of an input, as far as it settles what is printed: what the space that is lent has room for.
 fn read_dossier<'a, R: Read + Drop>(input: R, space: &'a mut Space) -> io::Result<&'a [u8]>
-    ensures { IfOk result (λ dossier. IfSome (R.remaining input) (λ all. dossier.now ≡ take 65536 all)) }
+    ensures within { IfOk result (λ dossier. length dossier.now ≤ 65536) }
+    ensures front { IfOk result (λ dossier. IfSome (R.remaining input) (λ all. dossier.now ≡ take 65536 all)) }
 {
     space.clear();
     // `as`: a length to the number that `take` asks.
