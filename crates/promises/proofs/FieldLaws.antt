@@ -14,6 +14,11 @@ field-joined v w s at h =
     let l : length (take w (drop (at + v) s)) ≡ w = length-take-le w (drop (at + v) s) (simp length-drop (omega arith)) in
     rw (take-add v w (drop at s), drop-drop, number_append, l)
 
+-- of the bytes that are left
+pub number-joined : (v w : ℕ) (s : List ℕ) → v + w ≤ length s → number (take (v + w) s) ≡ number (take v s) * 256 ^ w + number (take w (drop v s))
+unfolding field_at
+number-joined v w s h = field-joined v w s 0 h
+
 -- the same with the place of the second part named
 pub field_parts : (v w : ℕ) (s : List ℕ) (at next : ℕ) → at + v ≡ next → at + (v + w) ≤ length s → field_at (v + w) s at ≡ field_at v s at * 256 ^ w + field_at w s next
 field_parts v w s at next e h = rw (← e) (field-joined v w s at h)
