@@ -1,4 +1,3 @@
-use Rattle.std.proofs.Common.{rules}
 use Rattle.ledgertrace.proofs.ClosingLaws.{refused_lines, accepted_lines}
 use Rattle.ledgertrace.proofs.Trace.close.Goals as goal
 
