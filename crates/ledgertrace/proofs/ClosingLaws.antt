@@ -14,7 +14,7 @@ module _ (l : Ledger) (buffer : List ℕ) (step : StepFields) (h : step_of step 
   unfolding close_call
   answer_is = ap (λ (s : Step). s.answer) h
 
-  ledger_is : step.ledger ≡ l
+  pub ledger_is : step.ledger ≡ l
   unfolding close_call
   ledger_is = ap (λ (s : Step). s.ledger) h
 

@@ -11,6 +11,7 @@
 
 ghost use Rattle.std.specs.Prelude.{◌≡◌, ◌≤◌, length, take, drop, IfOk, IfSome, OnOk};
 ghost use Rattle.std.specs.Io.KnownBytes.{Appends};
+ghost use Rattle.reckoner.specs.Calls.{open_call, year_call};
 ghost use Rattle.ledgertrace.specs.Closing.{closing_lines, closed_lines};
 ghost use Rattle.ledgertrace.specs.Plans.{Fits, plan_after};
 
@@ -62,7 +63,8 @@ impl Trace {
     // `open` and `year` differ in the call that they make and in their word: one function of both would be handed the two, and be no plainer.
 
     fn open<W: Write>(&mut self, output: &mut W, piece: &[u8]) -> io::Result<()>
-        ensures { self.new.plan ≡ self.old.plan }
+        ensures plan { self.new.plan ≡ self.old.plan }
+        ensures ledger { self.new.ledger ≡ (open_call piece.now).ledger }
     {
         let Step { ledger, answer } = Ledger::open(piece);
         self.ledger = ledger;
@@ -71,7 +73,8 @@ impl Trace {
     }
 
     fn year<W: Write>(&mut self, output: &mut W, piece: &[u8]) -> io::Result<()>
-        ensures { self.new.plan ≡ self.old.plan }
+        ensures plan { self.new.plan ≡ self.old.plan }
+        ensures ledger { self.new.ledger ≡ (year_call self.old.ledger piece.now self.old.plan.items).ledger }
     {
         let Step { ledger, answer } = self.ledger.year(piece, &self.plan);
         self.ledger = ledger;
@@ -91,6 +94,7 @@ impl Trace {
     #[tactic(auto, using(crate::proofs::Rulesets::reports))]
     fn close<W: Write>(&mut self, output: &mut W, report: &mut [u8]) -> io::Result<()>
         ensures plan { self.new.plan ≡ self.old.plan }
+        ensures ledger { self.new.ledger ≡ self.old.ledger }
         ensures printed { OnOk result (Appends (W.contents output.old) (W.contents output.new) (closed_lines self.old.ledger report.old)) }
     {
         let Step { ledger, answer } = self.ledger.close(report);
