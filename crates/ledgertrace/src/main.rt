@@ -134,10 +134,9 @@ fn read_call<'a, R: Read>(
 ) -> io::Result<Option<Call<'a>>>
     ensures { IfOk result (λ read. IfSome read Fits) }
 {
-    // Both are read before either is looked at.
-    let mark = console::read_byte(input)?;
-    let length = console::read_length(input)?;
-    let (Some(mark), Some(length)) = (mark, length) else {
+    // 0 where the mark is missing: it is no call's, and what follows it is read as after any other.
+    let mark = console::read_byte(input)?.unwrap_or(0);
+    let Some(length) = console::read_length(input)? else {
         return Ok(None);
     };
     if mark == b'C' {
