@@ -3,7 +3,7 @@
 
 mod records;
 
-ghost use Rattle.std.specs.Prelude.{◌≡◌, ◌≤◌, [], IfOk};
+ghost use Rattle.std.specs.Prelude.{◌≡◌, ◌≤◌, [], IfOk, OnErr};
 ghost use Rattle.std.specs.Int.Signed.{mag};
 ghost use Rattle.classes.specs.Ranges.{greatest_activity};
 ghost use Rattle.cursor.specs.Says.{says};
@@ -21,11 +21,11 @@ const GREATEST_RESIDUES: u64 = 2;
 
 // The mark that stands here, and what follows it.
 #[tactic(auto, using(cursor::proofs::FieldLaws::field_16))]
-fn mark_here<'a>(reader: &Reader<'a>) -> Option<(u16, Reader<'a>)>
+fn mark_here<'a>(reader: &Reader<'a>) -> Option<(u64, Reader<'a>)>
     ensures { SaysMark reader.now result }
 {
     let (mark, fields) = reader.rest().split_first_chunk::<2>()?;
-    Some((u16::from_be_bytes(*mark), Reader::new(fields)))
+    Some((u64::from(u16::from_be_bytes(*mark)), Reader::new(fields)))
 }
 
 // The activity records that stand here, with the key of each: equal ones are not refused yet.
@@ -62,11 +62,15 @@ fn read_records(reader: &mut Reader, keys: &mut Keys) -> Result<Grams, Refusal>
 pub fn read_run(reader: &mut Reader) -> Result<Grams, Refusal>
     ensures value { says (λ grams. grams) result reader.new ≡ summed_activities reader.old }
     ensures small { IfOk result (λ grams. mag grams.0 ≤ greatest_activity) }
+    ensures stays { OnErr result (reader.new ≡ reader.old) }
 {
     let mut keys = Keys::new();
-    let grams = read_records(reader, &mut keys);
+    let mut ahead = Reader::new(reader.rest());
+    let grams = read_records(&mut ahead, &mut keys);
     if keys.any_equal() {
         return Err(Refusal::RecordRepeated);
     }
-    grams
+    let grams = grams?;
+    *reader = ahead;
+    Ok(grams)
 }

@@ -149,7 +149,7 @@ fn read_residue(reader: &mut Reader) -> Result<Activity, Refusal>
 
 /// Whether a mark is that of an activity record.
 #[tactic(auto, unfolding(dossier::specs::JudgingRecords::activity_mark))]
-pub fn is_activity(mark: u16) -> bool
+pub fn is_activity(mark: u64) -> bool
     ensures { result ≡ activity_mark mark }
 {
     matches!(mark, FU | VE | NI | LI | CR)
@@ -157,7 +157,7 @@ pub fn is_activity(mark: u16) -> bool
 
 /// The activity record that stands after its mark; none where the mark is another.
 #[tactic(auto, unfolding(dossier::specs::JudgingRecords::activity_mark, dossier::specs::JudgingRecords::activity_under))]
-pub fn read_activity(mark: u16, reader: &mut Reader) -> Option<Result<Activity, Refusal>>
+pub fn read_activity(mark: u64, reader: &mut Reader) -> Option<Result<Activity, Refusal>>
     ensures { SaysUnder mark reader.old result reader.new }
 {
     match mark {

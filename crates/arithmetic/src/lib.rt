@@ -1,7 +1,8 @@
-//! Division rounded up.
+//! Division rounded up, and the size of a signed number.
 #![tactic(auto)]
 
 ghost use Rattle.std.specs.Prelude.{◌≡◌, ◌+◌, ◌-◌, ◌^◌, ◌≤◌, ◌<◌};
+ghost use Rattle.std.specs.Int.Signed.{mag};
 ghost use Rattle.arithmetic.specs.Rounding.{ceil_div};
 
 /// n ÷ d, rounded up, by one division: by a constant it takes less than std's `div_ceil`, which divides once more for the remainder.
@@ -12,4 +13,12 @@ pub fn divided_up(n: u64, d: u64) -> u64
     ensures { result ≡ ceil_div n d }
 {
     (n + (d - 1)) / d
+}
+
+/// n, both of n and of -(n + 1).
+pub fn magnitude(z: i64) -> u64
+    ensures { result ≡ mag z }
+{
+    // `as`: neither is below 0.
+    if z < 0 { (-1 - z) as u64 } else { z as u64 }
 }

@@ -92,6 +92,8 @@ impl Model for Matrix {
 }
 
 /// Emission factors from class to class, in hundredths of tC per ha, row by row; each is at most 50,000.
+// Laid out as C lays out its one table, by which a host lends it.
+#[repr(C)]
 #[derive(Clone, Copy, Debug)]
 pub struct Factors {
     pub entries: [u64; 144],

@@ -1,12 +1,12 @@
 -- A buffer's filling, byte by byte.
 -- Assumes nothing.
-use Prim.Native.Nat.{ℕ, suc, ◌+◌, ◌≤◌, ◌<◌}
+use Prim.Native.Nat.{ℕ, zero, suc, ◌+◌, ◌≤◌, ◌<◌}
 use mathlib.Core.Path.{◌≡◌, ◌∙◌, refl, ap}
 use mathlib.Core.Bool.{Bool, true, false, cond, ◌&&◌}
 use mathlib.Core.List.{List}
 use native.Mathlib.Numerals.{add-one}
 use lib.Dec.{eqb}
-use lib.ListN.{length, get_or, drop, drop_of_length-le}
+use lib.ListN.{length, get_or, drop, replicate, drop_of_length-le}
 use lib.Seq.{drop-cons}
 use Rattle.console.specs.Filled.{filled}
 
@@ -27,3 +27,7 @@ not-filled s i h e = next s i h ∙ rw e
 
 pub filled_to-end : (s : List ℕ) (i : ℕ) → length s ≤ i → filled (drop i s) ≡ true
 filled_to-end s i h = ap filled (drop_of_length-le s h)
+
+pub filled-replicate : (n : ℕ) → filled (replicate n 165) ≡ true
+filled-replicate zero = refl
+filled-replicate (suc n) = filled-replicate n

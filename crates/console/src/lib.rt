@@ -15,9 +15,9 @@ use std::io::{ErrorKind, Read, Write};
 /// What a buffer is filled with before a call is lent it.
 pub const FILLING: u8 = 165;
 
-// Fills a piece from the input; whether the input went that far. No value stands beside it: the piece is the caller's, and each reader below makes its own of
-// it, which a function over them would have to be handed.
-fn fill<R: Read>(input: &mut R, piece: &mut [u8]) -> io::Result<bool>
+/// Fills a piece from the input; whether the input went that far. The piece keeps its length, on a failure too.
+// No value stands beside the answer: the piece is the caller's, and each reader below makes its own of it, which a function over them would have to be handed.
+pub fn fill<R: Read>(input: &mut R, piece: &mut [u8]) -> io::Result<bool>
     ensures length { length piece.new ≡ length piece.old }
     ensures bytes { IfOk result (λ is_whole. IsTrue is_whole → Consumes (R.remaining input.old) (R.remaining input.new) piece.new) }
 {

@@ -1,6 +1,6 @@
 //! A reader over the bytes of a dossier, a piece or a plan: what is left of them, and the fields that stand there.
 
-ghost use Rattle.std.specs.Prelude.{◌≡◌, ◌≤◌, ◌<◌, ◌*◌, ◌^◌, map, length, take, drop, [], OnOk};
+ghost use Rattle.std.specs.Prelude.{◌≡◌, ◌≤◌, ◌<◌, ◌*◌, ◌^◌, map, length, take, drop, [], OnOk, OnErr};
 ghost use Rattle.wire.specs.Bytes.{number, numbers};
 ghost use Rattle.dossier.specs.Reader.{mark as mark_due, begin, is, stands as mark_stands, within, equal, nothing, end_of_piece};
 ghost use Rattle.refusals.specs.Refusals.{number_of};
@@ -9,7 +9,7 @@ ghost use Rattle.cursor.specs.Says.{says, done};
 use refusals::Refusal;
 use std::marker::Model;
 
-/// The bytes that are left to read.
+/// The bytes that are left to read. A refusal leaves a reader where it stood.
 #[derive(Drop)]
 pub struct Reader<'a> {
     rest: &'a [u8],
@@ -104,46 +104,45 @@ impl<'a> Reader<'a> {
 
     /// Whether a mark stands here.
     #[tactic(auto, using(crate::proofs::Rulesets::marks, crate::proofs::FieldLaws::field_16))]
-    pub fn stands(&self, mark: u16) -> bool
+    pub fn stands(&self, mark: u64) -> bool
         ensures { result ≡ mark_stands (is mark) self.now }
     {
         match self.rest.first_chunk::<2>() {
-            Some(found) => u16::from_be_bytes(*found) == mark,
+            Some(found) => u64::from(u16::from_be_bytes(*found)) == mark,
             None => false,
         }
     }
 
     /// Past the mark of a record that has so many bytes of fields, where it stands here with all of them: otherwise `BytesMissing` or
     /// `MarkNotDue`.
-    #[tactic(auto, using(crate::proofs::Rulesets::beginnings, crate::proofs::FieldLaws::field_16))]
-    pub fn begin(&mut self, mark: u16, size: usize) -> Result<(), Refusal>
+    #[tactic(auto, unfolding(dossier::specs::Reader::begin, dossier::specs::Reader::followed, dossier::specs::Reader::present))]
+    pub fn begin(&mut self, mark: u64, size: usize) -> Result<(), Refusal>
         ensures value { says done result self.new ≡ begin mark size self.old }
         ensures room { OnOk result (size ≤ length self.new) }
+        ensures stays { OnErr result (self.new ≡ self.old) }
     {
-        let Some((found, rest)) = self.rest.split_first_chunk::<2>() else {
-            return Err(Refusal::BytesMissing);
-        };
-        if u16::from_be_bytes(*found) != mark {
-            return Err(Refusal::MarkNotDue);
-        }
-        if rest.len() < size {
+        let mut ahead = Reader::new(self.rest);
+        ahead.mark(mark)?;
+        if ahead.rest.len() < size {
             return Err(Refusal::BytesMissing);
         }
-        self.rest = rest;
+        *self = ahead;
         Ok(())
     }
 
     /// Past a mark that is due here: otherwise `BytesMissing` or `MarkNotDue`.
-    #[tactic(auto, unfolding(dossier::specs::Reader::mark))]
-    pub fn mark(&mut self, mark: u16) -> Result<(), Refusal>
-        ensures { says done result self.new ≡ mark_due mark self.old }
+    #[tactic(auto, using(crate::proofs::FieldLaws::field_16), unfolding(dossier::specs::Reader::mark))]
+    pub fn mark(&mut self, mark: u64) -> Result<(), Refusal>
+        ensures value { says done result self.new ≡ mark_due mark self.old }
+        ensures stays { OnErr result (self.new ≡ self.old) }
     {
-        if self.rest.len() < 2 {
+        let Some((found, rest)) = self.rest.split_first_chunk::<2>() else {
             return Err(Refusal::BytesMissing);
-        }
-        if self.u16() != mark {
+        };
+        if u64::from(u16::from_be_bytes(*found)) != mark {
             return Err(Refusal::MarkNotDue);
         }
+        self.rest = rest;
         Ok(())
     }
 

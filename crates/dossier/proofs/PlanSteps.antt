@@ -1,6 +1,6 @@
 -- A plan's judgement step by step: its years one by one, its end, and what is lent.
 -- Assumes nothing.
-use Rattle.std.proofs.Common.{ℕ, suc, ◌+◌, ◌<◌, ◌≡◌, refl, Bool, true, false, cond, List, [], ◌∷◌, ◌++◌, arith, lt-ltb, le-ltb, eqb, length, take, drop_of_length-le}
+use Rattle.std.proofs.Common.{ℕ, zero, suc, ◌+◌, ◌<◌, ◌≡◌, refl, Bool, true, false, cond, List, [], ◌∷◌, ◌++◌, arith, lt-ltb, le-ltb, eqb, length, take, drop_of_length-le}
 use mathlib.Core.Option.{none, some}
 use Rattle.wire.specs.Bytes.{number}
 use Rattle.dossier.specs.Causes.{plan_not_of_form}
@@ -24,6 +24,11 @@ module _ (least : ℕ) (before : List PlanYear) (s : List ℕ) where
   pub years_full : (more : ℕ) → more ≡ 0 → plan_years more least before s ≡ plan_end before s
   unfolding plan_years
   years_full more z = rw z
+
+  pub years-over : (more : ℕ) → stands (is mark_py) s ≡ false → plan_years more least before s ≡ plan_end before s
+  unfolding plan_years upon
+  years-over zero f = refl
+  years-over (suc more) f = rw f
 
 -- ---- the end: EN and nothing more, or 12
 module _ (years : Plan) (s : List ℕ) where

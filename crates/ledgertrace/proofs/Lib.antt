@@ -1,3 +1,4 @@
 pub mod TraceLaws
 pub mod Rulesets
 pub mod CallLaws
+pub mod ClosingLaws

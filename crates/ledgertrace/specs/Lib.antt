@@ -1,1 +1,2 @@
+pub mod Closing
 pub mod Plans

@@ -9,7 +9,10 @@
 //! one, the line `buffer changed` follows.
 #![tactic(auto)]
 
-ghost use Rattle.std.specs.Prelude.{◌≡◌, ◌≤◌, length, IfOk, IfSome};
+ghost use Rattle.std.specs.Prelude.{◌≡◌, ◌≤◌, length, take, drop, IfOk, IfSome, OnOk};
+ghost use Rattle.std.specs.Io.KnownBytes.{Appends};
+ghost use Rattle.reckoner.specs.Calls.{open_call, year_call};
+ghost use Rattle.ledgertrace.specs.Closing.{closing_lines, closed_lines};
 ghost use Rattle.ledgertrace.specs.Plans.{Fits, plan_after};
 
 use arrayvec::ArrayVec;
@@ -38,6 +41,7 @@ struct Trace {
 fn print_closing<W: Write>(output: &mut W, number: u8, report: &[u8], end: usize) -> io::Result<()>
     requires inside { end ≤ length report.now }
     requires fits { end ≤ 1312 }
+    ensures { OnOk result (Appends (W.contents output.old) (W.contents output.new) (closing_lines number (take end report.now) (drop end report.now))) }
 {
     console::print_call(output, b"close", number, &report[..end])?;
     if !console::is_filled(report, end) {
@@ -59,7 +63,8 @@ impl Trace {
     // `open` and `year` differ in the call that they make and in their word: one function of both would be handed the two, and be no plainer.
 
     fn open<W: Write>(&mut self, output: &mut W, piece: &[u8]) -> io::Result<()>
-        ensures { self.new.plan ≡ self.old.plan }
+        ensures plan { self.new.plan ≡ self.old.plan }
+        ensures ledger { self.new.ledger ≡ (open_call piece.now).ledger }
     {
         let Step { ledger, answer } = Ledger::open(piece);
         self.ledger = ledger;
@@ -68,7 +73,8 @@ impl Trace {
     }
 
     fn year<W: Write>(&mut self, output: &mut W, piece: &[u8]) -> io::Result<()>
-        ensures { self.new.plan ≡ self.old.plan }
+        ensures plan { self.new.plan ≡ self.old.plan }
+        ensures ledger { self.new.ledger ≡ (year_call self.old.ledger piece.now self.old.plan.items).ledger }
     {
         let Step { ledger, answer } = self.ledger.year(piece, &self.plan);
         self.ledger = ledger;
@@ -87,7 +93,9 @@ impl Trace {
 
     #[tactic(auto, using(crate::proofs::Rulesets::reports))]
     fn close<W: Write>(&mut self, output: &mut W, report: &mut [u8]) -> io::Result<()>
-        ensures { self.new.plan ≡ self.old.plan }
+        ensures plan { self.new.plan ≡ self.old.plan }
+        ensures ledger { self.new.ledger ≡ self.old.ledger }
+        ensures printed { OnOk result (Appends (W.contents output.old) (W.contents output.new) (closed_lines self.old.ledger report.old)) }
     {
         let Step { ledger, answer } = self.ledger.close(report);
         self.ledger = ledger;
@@ -126,9 +134,8 @@ fn read_call<'a, R: Read>(
 ) -> io::Result<Option<Call<'a>>>
     ensures { IfOk result (λ read. IfSome read Fits) }
 {
-    let Some(mark) = console::read_byte(input)? else {
-        return Ok(None);
-    };
+    // 0 where the mark is missing: it is no call's, and what follows it is read as after any other.
+    let mark = console::read_byte(input)?.unwrap_or(0);
     let Some(length) = console::read_length(input)? else {
         return Ok(None);
     };

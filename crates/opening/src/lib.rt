@@ -1,7 +1,7 @@
 //! The opening of a dossier or of a ledger: HD, ST if it is filed, PA, DA and, under Option 2, MP.
 #![tactic(auto)]
 
-ghost use Rattle.std.specs.Prelude.{◌≡◌, ◌+◌, ◌≤◌, [], pos, IfOk};
+ghost use Rattle.std.specs.Prelude.{◌≡◌, ◌+◌, ◌≤◌, [], pos, IfOk, OnErr};
 ghost use Rattle.dossier.specs.JudgingRecords.{head, stocks, stocks_if_any, areas, matrix, matrix_under};
 ghost use Rattle.cursor.specs.Says.{says};
 ghost use Rattle.projection.specs.Projection.{area_total};
@@ -104,7 +104,7 @@ struct Inception {
 // Inlined, for what a function hands back is cleared and copied once more (docs/PERFORMANCE.md).
 #[inline(always)]
 #[tactic(auto, unfolding(dossier::specs::JudgingRecords::areas, dossier::specs::Reader::followed))]
-fn read_areas(reader: &mut Reader, mark: u16, least: u64) -> Result<Inception, Refusal>
+fn read_areas(reader: &mut Reader, mark: u64, least: u64) -> Result<Inception, Refusal>
     ensures { says (λ inception. amounts inception.areas) result reader.new ≡ areas mark least reader.old }
 {
     reader.begin(mark, 96)?;
@@ -172,12 +172,14 @@ pub fn read_opening(reader: &mut Reader) -> Result<Opened, Refusal>
     ensures value { says settled_of result reader.new ≡ settled_opening reader.old }
     ensures few { IfOk result (λ opened. opened.state.left ≤ 20) }
     ensures none_credited { IfOk result (λ opened. opened.state.total.0 ≡ pos 0) }
+    ensures stays { OnErr result (reader.new ≡ reader.old) }
 {
-    let head = read_head(reader)?;
-    let stocks = read_stocks_if_any(reader)?;
-    let project = read_areas(reader, PA, 1)?;
-    let belt = read_areas(reader, DA, 0)?;
-    let matrix = read_matrix_under(reader, head.option)?;
+    let mut ahead = Reader::new(reader.rest());
+    let head = read_head(&mut ahead)?;
+    let stocks = read_stocks_if_any(&mut ahead)?;
+    let project = read_areas(&mut ahead, PA, 1)?;
+    let belt = read_areas(&mut ahead, DA, 0)?;
+    let matrix = read_matrix_under(&mut ahead, head.option)?;
     let terms = Terms {
         option: head.option,
         stocks: stocks.unwrap_or_else(Stocks::built_in),
@@ -192,6 +194,7 @@ pub fn read_opening(reader: &mut Reader) -> Result<Opened, Refusal>
         belt: Region::opened(belt.areas),
         total: Grams(0),
     };
+    *reader = ahead;
     Ok(Opened { terms, state })
 }
 

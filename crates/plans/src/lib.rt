@@ -1,13 +1,14 @@
 //! A plan: its years judged once, and the records of a year found among them.
 #![tactic(auto)]
 
-ghost use Rattle.std.specs.Prelude.{◌≡◌, ◌==◌, [], map, option_map, All, IfOk, OnOk};
+ghost use Rattle.std.specs.Prelude.{◌≡◌, ◌==◌, ◌≤◌, [], ◌∷◌, map, drop, length, option_map, All, IfOk, OnOk};
+ghost use Rattle.std.proofs.Math.Option.{some};
 ghost use Rattle.std.specs.List.{find};
 ghost use Rattle.dossier.specs.JudgingPlan.{plan_year, plan_years, plan_fault as fault_number, lent_plan};
 ghost use Rattle.dossier.specs.Plan.{records_for};
 ghost use Rattle.refusals.specs.Refusals.{number_of};
 ghost use Rattle.cursor.specs.Says.{says};
-ghost use Rattle.plans.specs.Answers.{year_of, EndOf, IsPartOf, Finds};
+ghost use Rattle.plans.specs.Answers.{year_of, records_at, Holds, EndOf, IsPartOf, Finds};
 
 use arrayvec::ArrayVec;
 use cursor::Reader;
@@ -113,6 +114,25 @@ impl<'a> Plan<'a> {
             bytes,
             years: Some(years),
         })
+    }
+
+    /// Of a year whose activity records were found in these bytes, from a place on, whatever else the bytes hold: a plan of that year alone.
+    pub fn of_year(bytes: &'a [u8], from: usize, year: u16) -> Self
+        requires inside { from ≤ length bytes.now }
+        requires found { Holds (records_at (drop from bytes.now)) (drop from bytes.now) }
+        ensures years { result.years ≡ some (record { year = year; activities = records_at (drop from bytes.now) } ∷ []) }
+        ensures bytes { result.bytes ≡ bytes.now }
+    {
+        let (_, part) = bytes.split_at(from);
+        let mut years = ArrayVec::new();
+        years.push(PlannedYear {
+            year,
+            records: part,
+        });
+        Plan {
+            bytes,
+            years: Some(years),
+        }
     }
 
     /// The part of the plan's bytes that begins with the activity records of a year, where the plan has the year.

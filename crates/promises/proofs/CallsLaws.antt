@@ -64,15 +64,16 @@ in_range_lem piece plan l k b bp =
     (λ n y rest e. no _ _ _ e)
     (λ p lent a u f y rest e. let w = (year-accepted (due_of p l) (due-kept p lent l k)).sound piece b a u f in (p, lent, rw (was e).0 at w.0))
 
-giving_verdict : (piece plan : List ℕ) (l : Ledger) → LedgerKept l → Bytes piece → Bytes plan → (j : Judged Year) → judged_as piece plan l ≡ j → Verdict (giving piece plan) l
+giving_verdict : (piece plan : List ℕ) (l : Ledger) (j : Judged Year) → judged_as piece plan l ≡ j
+    → ((y : Year) (rest : List ℕ) → j ≡ accepted y rest → (p : Option Plan) × PlanLent p × YearInRange (due_of p l) y) → Verdict (giving piece plan) l
 unfolding brought_year after_call called year_call
-giving_verdict piece plan l k b bp (refused n) e = let some = never-zero piece plan l n e in nothing (grind arith) (grind arith) (grind arith)
-giving_verdict piece plan l k b bp (accepted y rest) e =
+giving_verdict piece plan l (refused n) e h = let some = never-zero piece plan l n e in nothing (grind arith) (grind arith) (grind arith)
+giving_verdict piece plan l (accepted y rest) e h =
     let t = taken piece plan l y rest e in
-    brings y (in_range_lem piece plan l k b bp y rest e) t.brought t.after t.stand
+    brings y (h y rest refl) t.brought t.after t.stand
 
 pub verdict : (c : Call) (calls : List Call) (l : Ledger) → LedgerKept l → LentBytes (c ∷ calls) → Verdict c l
-verdict (giving piece plan) calls l k b = giving_verdict piece plan l k b.0.0 b.0.1 (judged_as piece plan l) refl
+verdict (giving piece plan) calls l k b = giving_verdict piece plan l (judged_as piece plan l) refl (in_range_lem piece plan l k b.0.0 b.0.1)
 verdict (closing buffer) calls l k b = unfold brought_year after_call called close_call in nothing refl refl refl
 
 pub lent-rest : (c : Call) (calls : List Call) → LentBytes (c ∷ calls) → LentBytes calls

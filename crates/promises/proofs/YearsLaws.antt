@@ -17,6 +17,12 @@ use Rattle.reckoner.specs.Ledger.{Ledger, due_of, given_year, given_years}
 use Rattle.reckoner.proofs.Invariant.{YearsTaken}
 use Rattle.promises.specs.Reported.{years_figures, projected_years}
 
+-- a year changes no terms
+pub given-terms : (ys : List Year) (l : Ledger) → (given_years ys l).terms ≡ l.terms
+unfolding given_years given_year
+given-terms [] l = refl
+given-terms (y ∷ ys) l = given-terms ys (given_year y l)
+
 -- ---- the figures: those of the years before stay, and each year adds its own
 figures_stay : (ys : List Year) (l : Ledger) (i : ℕ) → i < l.given → get_or (given_years ys l).figures i no_figures ≡ get_or l.figures i no_figures
 unfolding given_years given_year

@@ -1,7 +1,7 @@
 //! One year's reckoning: what the bytes of a year make of a ledger's state.
 #![tactic(auto)]
 
-ghost use Rattle.std.specs.Prelude.{◌≡◌, ◌+◌, ◌≤◌, ◌<◌, IfOk};
+ghost use Rattle.std.specs.Prelude.{◌≡◌, ◌+◌, ◌≤◌, ◌<◌, IfOk, OnErr};
 ghost use Rattle.std.specs.Int.Signed.{mag};
 ghost use Rattle.classes.specs.Matrix.{entry};
 ghost use Rattle.classes.specs.Ranges.{greatest_figure, greatest_total};
@@ -73,11 +73,14 @@ pub fn step<'a>(
     ensures value { says (λ advanced. advanced) result reader.new ≡ stepped_year (entry tables.now.projected) (entry tables.now.monitored) terms.now.matrix (records_for plan.now.years state.now.year) terms.now.start.0 terms.now.beltstart.0 state.now reader.old }
     ensures left { IfOk result (λ advanced. advanced.state.left + 1 ≡ state.now.left) }
     ensures total { IfOk result (λ advanced. mag advanced.state.total.0 ≤ mag state.now.total.0 + greatest_figure) }
+    ensures stays { OnErr result (reader.new ≡ reader.old) }
 {
-    let year = years::read_year(reader, plan, terms, state, &tables.monitored)?;
+    let mut ahead = Reader::new(reader.rest());
+    let year = years::read_year(&mut ahead, plan, terms, state, &tables.monitored)?;
     let advanced = advance(&year, terms, state, tables);
     if year.planned && !figures::small_activity(&advanced.figures) {
         return Err(Refusal::PlannedYearWrong);
     }
+    *reader = ahead;
     Ok(advanced)
 }

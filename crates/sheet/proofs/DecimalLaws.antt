@@ -11,7 +11,8 @@ use lib.Dec.{ltb, lit<}
 use lib.Pow.{pow-add}
 use lib.ListN.{length, length-append}
 use borrow.Author.Tests.{ltb-true, ltb-false}
-use Rattle.std.specs.Fmt.{decimal}
+use Rattle.std.specs.Prelude.{◌==◌, if◌then◌else◌}
+use Rattle.std.specs.Fmt.{decimal, digits, digits_onto, digit_glyph}
 use Rattle.std.proofs.lemmas.Fmt.{decimal_digit, decimal_step_wide, decimal_by_steps_wide, length-decimal-le_wide}
 
 -- the digit of a number below 10
@@ -36,9 +37,8 @@ decimal-is n h = go (ltb n 10) (ltb-true n 10) (ltb-false n 10)
     go false few many = decimal-more n (many refl) h
 
 -- ---- their number
--- at most k + 1 digits below 10 ^ (k + 1): 20 of 64 bits, 19 of a figure
-pub length-decimal : (k n : ℕ) → n < 10 ^ suc k → k < 64 → length (decimal n) ≤ suc k
-length-decimal k n h few = length-decimal-le_wide (suc k) n (omega arith) h (wide n (suc k) (omega arith) h)
+few_digits : (k n : ℕ) → n < 10 ^ suc k → k < 64 → length (decimal n) ≤ suc k
+few_digits k n h few = length-decimal-le_wide (suc k) n (omega arith) h (wide n (suc k) (omega arith) h)
   where
     wide : (n k : ℕ) → k ≤ 64 → n < 10 ^ k → n < 10 ^ 64
     wide n k l h =
@@ -54,6 +54,24 @@ length-decimal k n h few = length-decimal-le_wide (suc k) n (omega arith) h (wid
         product : (a b : ℕ) → 0 < b → a ≤ a * b
         product a zero h = absurd (omega arith)
         product a (suc b) h = omega arith
+
+-- and never more than the 64 that are written
+onto_length : (k n : ℕ) (after : List ℕ) → length (digits_onto k 10 false n after) ≤ k + length after
+onto_length zero n after = omega arith
+onto_length (suc k) n after = either (n / 10 == 0) (digit_glyph false (n % 10) ∷ after) _ (omega arith) (omega (arith, onto_length k (n / 10) (digit_glyph false (n % 10) ∷ after)))
+  where
+    either : (b : Bool) (few many : List ℕ) → length few ≤ suc k + length after → length many ≤ suc k + length after → length (if b then few else many) ≤ suc k + length after
+    either true few many h g = h
+    either false few many h g = g
+
+-- at most k + 1 digits below 10 ^ (k + 1): 20 of 64 bits, 19 of a figure
+pub length-decimal : (k n : ℕ) → n < 10 ^ suc k → length (decimal n) ≤ suc k
+unfolding digits
+length-decimal k n h = go (ltb k 64) (ltb-true k 64) (ltb-false k 64)
+  where
+    go : (b : Bool) → (b ≡ true → k < 64) → (b ≡ false → 64 ≤ k) → length (decimal n) ≤ suc k
+    go true few many = few_digits k n h (few refl)
+    go false few many = let long = many refl in omega (arith, onto_length 64 n [], long)
 
 pub length_more : (n : ℕ) → 10 ≤ n → n < 10 ^ 20 → length (decimal n) ≡ length (decimal (n / 10)) + 1
 length_more n h l = ap length (decimal-more n h l) ∙ length-append (decimal (n / 10)) (digit (n % 10) ∷ [])

@@ -30,10 +30,10 @@ figure-below n h =
 pub length-figure_by : (b : Bool) (n : ℕ) → ltb n (2 ^ 63) ≡ b → length (signed_decimal (signed n)) ≤ 20
 length-figure_by true n e =
     let h = ltb-true n (2 ^ 63) e in
-    rw (figure-above n h) (omega (arith, length-decimal 18 n (omega arith) (omega arith)))
+    rw (figure-above n h) (omega (arith, length-decimal 18 n (omega arith)))
 length-figure_by false n e =
     let h = ltb-false n (2 ^ 63) e in
-    rw (figure-below n h) (omega (arith, length-decimal 18 (2 ^ 64 - 1 - n + 1) (omega arith) (omega arith)))
+    rw (figure-below n h) (omega (arith, length-decimal 18 (2 ^ 64 - 1 - n + 1) (omega arith)))
 
 pub length-figure : (n : ℕ) → length (signed_decimal (signed n)) ≤ 20
 length-figure n = length-figure_by (ltb n (2 ^ 63)) n refl
@@ -74,7 +74,7 @@ length-spaced (suc k) result at =
 pub length_line : (year : ℕ) (result : List ℕ) (at : ℕ) → year < 10 ^ 20 → length (year_line year result at) ≤ 189
 unfolding year_line
 length_line year result at h =
-    simp length-append (omega (arith, length-decimal 19 year h (omega arith), length-spaced 8 result at))
+    simp length-append (omega (arith, length-decimal 19 year h, length-spaced 8 result at))
 
 pub length_lines : (n year : ℕ) (result : List ℕ) (at : ℕ) → year + n < 10 ^ 20 → length (year_lines n year result at) ≤ 189 * n
 unfolding year_lines
@@ -94,9 +94,9 @@ length_sheet first n result h g =
 
 pub length_refusal : (n : ℕ) → n < 256 → length (refusal_of n) ≤ 4096
 unfolding refusal_of
-length_refusal n h = simp length-append (omega (arith, length-decimal 2 n (omega arith) (omega arith)))
+length_refusal n h = simp length-append (omega (arith, length-decimal 2 n (omega arith)))
 
 pub length_call : (word : List ℕ) (n : ℕ) (figures : List ℕ) → length word ≤ 100 → n < 256 → length figures ≤ 1472 → length (call_line word n figures) ≤ 4096
 unfolding call_line numbers_line
 length_call word n figures h g f =
-    simp length-append (omega (arith, length-decimal 2 n (omega arith) (omega arith), length-spaced (length figures / 8) figures 0))
+    simp length-append (omega (arith, length-decimal 2 n (omega arith), length-spaced (length figures / 8) figures 0))

@@ -46,7 +46,7 @@ fn carbon_of(weighing: &Weighing, conversions: &[[u8; 8]; 144]) -> Option<Carbon
 fn read_by_entries(
     weighing: &Weighing,
     reader: &mut Reader,
-    mark: u16,
+    mark: u64,
 ) -> Result<CarbonUnits, Refusal>
     ensures value { says (λ carbon. carbon) result reader.new ≡ monitored_table (entry weighing.now.factors.now) mark weighing.now.total.0 reader.old }
     ensures small { IfOk result (λ carbon. SmallCarbon carbon.0) }
@@ -57,7 +57,7 @@ fn read_by_entries(
 
 /// The carbon of CP and CD together, each read by `read`, both weighed alike.
 #[tactic(auto, unfolding(crate::specs::Said::both_tables, dossier::specs::Reader::followed, dossier::specs::Reader::give))]
-fn read_both<F: Fn(&mut Reader, u16) -> Result<CarbonUnits, Refusal>>(
+fn read_both<F: Fn(&mut Reader, u64) -> Result<CarbonUnits, Refusal>>(
     weighing: &Weighing,
     reader: &mut Reader,
     read: F,

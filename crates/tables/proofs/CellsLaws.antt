@@ -22,19 +22,12 @@ use Rattle.figures.specs.Figures.{monitored_carbon}
 use Rattle.figures.proofs.FiguresLaws.{monitored_places}
 use Rattle.wire.specs.Bytes.{bytes, numbers, total, field_at}
 use Rattle.wire.proofs.BytesLaws.{length-bytes, length-numbers}
-use Rattle.wire.proofs.NumbersLaws.{numbers-add, total-append, total-le}
+use Rattle.wire.proofs.NumbersLaws.{next-number, numbers-add, total-append, total-le}
 use Rattle.dossier.specs.Reader.{Judged, refused, accepted, give, begin}
 use Rattle.dossier.specs.JudgingRecords.{conversions}
 use Rattle.cursor.proofs.AtLaws.{begun_says, begun_no, begun-yes, reading}
 use Rattle.dossier.proofs.ReaderLaws.{bind_no, bind-yes}
 use Rattle.tables.specs.Answers.{monitored_table}
-
--- one number more, from its place in the bytes
-next-number : (w i : ℕ) (s : List ℕ) (at x : ℕ) → x ≡ field_at w s (at + w * i) → numbers (suc i) w (drop at s) ≡ numbers i w (drop at s) ++ (x ∷ [])
-unfolding numbers field_at
-next-number w i s at x e =
-    let k : suc i ≡ i + 1 = omega arith in
-    ap (λ (m : ℕ). numbers m w (drop at s)) k ∙ numbers-add i 1 w (drop at s) ∙ rw (drop-drop (i * w) at s, mul_comm i w, ← e)
 
 -- one of the conversions is above most
 unfoldable pub some_above : ℕ → List ℕ → Bool
@@ -137,7 +130,7 @@ row_small most factors k xs f few small fit =
 
 -- the conversion at the next place
 pub one_more_lem : (s : List ℕ) (at j x : ℕ) → x ≡ field_at 8 s (at + 8 * j) → numbers (j + 1) 8 (drop at s) ≡ numbers j 8 (drop at s) ++ x ∷ []
-one_more_lem s at j x ex = rw add-one (next-number 8 j s at x ex)
+one_more_lem s at j x ex = rw add-one (next-number 8 j s at x ex).0
 
 -- the first k conversions of the table at a place
 abbrev pub cells : List ℕ → ℕ → ℕ → List ℕ

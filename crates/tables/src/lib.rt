@@ -1,7 +1,7 @@
 //! A table of conversions, CP or CD: weighed by the emission factors as it is read; nothing of it is stored.
 #![tactic(auto)]
 
-ghost use Rattle.std.specs.Prelude.{◌≡◌, ◌<◌, ◌≤◌, ◌*◌, All, map, SomeIff, IfSome, IfOk};
+ghost use Rattle.std.specs.Prelude.{◌≡◌, ◌<◌, ◌≤◌, ◌*◌, All, map, SomeIff, IfSome, IfOk, OnErr};
 ghost use Rattle.wire.specs.Bytes.{number, total as sum_of};
 ghost use Rattle.classes.specs.Classes.{greatest_stock};
 ghost use Rattle.classes.specs.Matrix.{entry};
@@ -86,12 +86,17 @@ impl<'a> Weighing<'a> {
 
     /// The carbon of CP or CD. Where its conversions do not come to the total, it is refused with `ConversionTotalWrong`.
     #[tactic(auto, unfolding(crate::specs::Answers::monitored_table, dossier::specs::JudgingRecords::conversions, dossier::specs::Reader::followed, dossier::specs::Reader::fields, dossier::specs::Reader::equal, dossier::specs::Reader::give))]
-    pub fn read_table(&self, reader: &mut Reader, mark: u16) -> Result<CarbonUnits, Refusal>
+    pub fn read_table(&self, reader: &mut Reader, mark: u64) -> Result<CarbonUnits, Refusal>
         ensures value { says (λ carbon. carbon) result reader.new ≡ monitored_table (entry self.now.factors.now) mark self.now.total.0 reader.old }
         ensures small { IfOk result (λ carbon. SmallCarbon carbon.0) }
+        ensures stays { OnErr result (reader.new ≡ reader.old) }
     {
-        reader.begin(mark, 1152)?;
-        self.carbon_of(reader.fields())
-            .ok_or(Refusal::ConversionTotalWrong)
+        let mut ahead = Reader::new(reader.rest());
+        ahead.begin(mark, 1152)?;
+        let carbon = self
+            .carbon_of(ahead.fields())
+            .ok_or(Refusal::ConversionTotalWrong)?;
+        *reader = ahead;
+        Ok(carbon)
     }
 }

@@ -71,7 +71,9 @@ fn read_part<'a, R: Read>(input: &mut R, space: &'a mut [u8]) -> io::Result<Opti
 }
 
 /// The next period ends of the input, after their number, or `None` where they are cut or more than 64.
-fn read_ends<'a, R: Read>(input: &mut R, ends: &'a mut [u16; 64]) -> io::Result<Option<&'a [u16]>> {
+fn read_ends<'a, R: Read>(input: &mut R, ends: &'a mut [u16; 64]) -> io::Result<Option<&'a [u16]>>
+    ensures { IfOk result (λ read. IfSome read (λ ends. length ends.now ≤ 64)) }
+{
     let Some(count) = read_length(input, ends.len())? else {
         return Ok(None);
     };
@@ -96,16 +98,12 @@ fn read_vector<'a, R: Read>(input: &mut R, space: &'a mut Space) -> io::Result<O
     let Some(label) = read_part(input, label)? else {
         return Ok(None);
     };
-    let Some(dossier) = read_part(input, dossier)? else {
-        return Ok(None);
-    };
-    let Some(plan) = read_part(input, plan)? else {
-        return Ok(None);
-    };
-    let Some(ends) = read_ends(input, ends)? else {
-        return Ok(None);
-    };
-    let Some(room) = read_length(input, 1472)? else {
+    // All of these are read before any is looked at.
+    let dossier = read_part(input, dossier)?;
+    let plan = read_part(input, plan)?;
+    let ends = read_ends(input, ends)?;
+    let room = read_length(input, 1472)?;
+    let (Some(dossier), Some(plan), Some(ends), Some(room)) = (dossier, plan, ends, room) else {
         return Ok(None);
     };
     Ok(Some(Vector {

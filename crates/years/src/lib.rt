@@ -1,7 +1,7 @@
 //! A year of a dossier: YR, CP, CD, and its activity records or PL.
 #![tactic(auto)]
 
-ghost use Rattle.std.specs.Prelude.{◌≡◌, ◌≤◌, ◌<◌, IfOk};
+ghost use Rattle.std.specs.Prelude.{◌≡◌, ◌≤◌, ◌<◌, IfOk, OnErr};
 ghost use Rattle.std.specs.Int.Signed.{mag};
 ghost use Rattle.classes.specs.Matrix.{entry};
 ghost use Rattle.classes.specs.Ranges.{greatest_activity};
@@ -108,16 +108,18 @@ pub fn read_year<'a>(
     ensures value { says (λ summary. summary) result reader.new ≡ summarized_year (entry counted.now) (records_for plan.now.years state.now.year) state.now.year state.now.left terms.now.start.0 terms.now.beltstart.0 reader.old }
     ensures left { IfOk result (λ _. 1 ≤ state.now.left) }
     ensures year { IfOk result (λ _. state.now.year < 65_536) }
+    ensures stays { OnErr result (reader.new ≡ reader.old) }
 {
-    reader.begin(YR, 4)?;
+    let mut ahead = Reader::new(reader.rest());
+    ahead.begin(YR, 4)?;
     if state.left == 0 {
         return Err(Refusal::YearWrong);
     }
-    let calendar_year = u64::from(reader.u16());
-    let operating = u64::from(reader.u16());
-    reader.equal(calendar_year, state.year, Refusal::YearWrong)?;
+    let calendar_year = u64::from(ahead.u16());
+    let operating = u64::from(ahead.u16());
+    ahead.equal(calendar_year, state.year, Refusal::YearWrong)?;
     let calendar = classes::days_in_year(calendar_year);
-    reader.within(1, operating, calendar, Refusal::YearWrong)?;
+    ahead.within(1, operating, calendar, Refusal::YearWrong)?;
     let days = YearDays {
         operating,
         calendar,
@@ -130,9 +132,10 @@ pub fn read_year<'a>(
         total: terms.beltstart,
         factors: counted,
     };
-    let project = project_table.read_table(reader, CP)?;
-    let belt = belt_table.read_table(reader, CD)?;
-    let Emissions { planned, activity } = read_records(reader, plan, state.year)?;
+    let project = project_table.read_table(&mut ahead, CP)?;
+    let belt = belt_table.read_table(&mut ahead, CD)?;
+    let Emissions { planned, activity } = read_records(&mut ahead, plan, state.year)?;
+    *reader = ahead;
     Ok(YearSummary {
         days,
         project,
@@ -144,21 +147,25 @@ pub fn read_year<'a>(
 
 /// YR where no year is left: `YearWrong`, whatever follows it.
 #[tactic(auto, unfolding(dossier::specs::Judging::none_left, dossier::specs::Reader::followed, dossier::specs::Reader::refuse))]
-fn none_left(reader: &mut Reader) -> Result<(), Refusal>
-    ensures { says done result reader.new ≡ none_left reader.old }
+fn none_left(reader: &Reader) -> Result<(), Refusal>
+    ensures { says done result reader.now ≡ none_left reader.now }
 {
-    reader.begin(YR, 4)?;
+    Reader::new(reader.rest()).begin(YR, 4)?;
     Err(Refusal::YearWrong)
 }
 
 /// EN and nothing after it, once all years are read. YR stays due there, and is `YearWrong`.
 #[tactic(auto, unfolding(dossier::specs::Judging::end, dossier::specs::Reader::followed, dossier::specs::Reader::upon))]
 pub fn read_end(reader: &mut Reader) -> Result<(), Refusal>
-    ensures { says done result reader.new ≡ end reader.old }
+    ensures value { says done result reader.new ≡ end reader.old }
+    ensures stays { OnErr result (reader.new ≡ reader.old) }
 {
     if reader.stands(YR) {
         return none_left(reader);
     }
-    reader.mark(EN)?;
-    reader.nothing()
+    let mut ahead = Reader::new(reader.rest());
+    ahead.mark(EN)?;
+    ahead.nothing()?;
+    *reader = ahead;
+    Ok(())
 }

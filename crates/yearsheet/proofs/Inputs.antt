@@ -1,16 +1,11 @@
--- What was read of an input, and what is printed of its front.
+-- What is printed of the front of an input.
 -- Assumes nothing.
-use Rattle.std.proofs.Common.{arith, ◌≡◌, ℕ, List, [], ◌++◌, take, Option, Result}
+use Rattle.std.proofs.Common.{arith, ℕ, List, take, Option, Result}
 use Rattle.std.specs.Prelude.{IfSome, OnOk}
-use Rattle.std.specs.Option.{option_map}
 use Rattle.std.specs.Io.KnownBytes.{Appends}
 use Rattle.wire.specs.Bytes.{Bytes}
 use Rattle.printout.specs.Printout.{printout}
 use Rattle.printout.proofs.LongInputs.{same-printout}
-
--- a reader that stops at a limit gave the front of the input
-pub taken : (known : Option (List ℕ)) (limit : ℕ) (read : List ℕ) → IfSome (option_map (take limit) known) (λ all. read ≡ [] ++ all) → IfSome known (λ all. read ≡ take limit all)
-taken known limit read h = grind arith
 
 -- what is printed of the first 65,536 bytes is the printout of the whole input
 pub printed_whole : {V E : Type 0} (answer : Result V E) (known old new : Option (List ℕ))

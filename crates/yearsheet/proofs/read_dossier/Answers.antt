@@ -1,8 +1,8 @@
-use Rattle.yearsheet.proofs.Inputs.{taken}
+use Rattle.std.proofs.Common.{◌≡◌, length, rules}
 use Rattle.yearsheet.proofs.read_dossier.Goals as goal
 
-pub returns : goal.returns
-returns g c =
-    rw c.as_slice.ensures.value
-    (taken (g.R.Read.remaining c.args.input) 65536 c.copy.new.writer.items
-    (rw (c.take-front.ensures.limit, c.take-front.ensures.inner, c.capacity-room.ensures, c.clear.ensures) at c.in_ok-copy.ensures.bytes))
+-- the room that the space has
+pub returns-clause-front : goal.returns-clause-front
+returns-clause-front g c =
+    let room : length c.args.space.now ≡ 65536 = search rules in
+    rw room at c.in_ok-done.ensures.bytes
